@@ -9,8 +9,8 @@ use native.Mathlib.Omega.{arith}
 use borrow.Author.Tests.{lt-ltb, le-ltb, le-leb}
 use lib.Dec.{ltb, leb}
 use lib.ListN.{length, getD, length-append, List·getD-append}
-use Rattle.decimal.specs.Decimal.{decimalIn, decimal, digitByte, allDigits, digitsValue, isNumeral, maxDigits}
-use Rattle.decimal.proofs.NumeralLaws.{digit-one, allDigits-append, digitsValue-snoc, numeral-yes}
+use Rattle.decimal.specs.Decimal.{decimalIn, decimal, digitByte, allDigits, digitsValue, isNumeral, maxDigits, readNumeral}
+use Rattle.decimal.proofs.NumeralLaws.{digit-one, allDigits-append, digitsValue-snoc, numeral-yes, read-yes}
 
 le-of-not-lt : {a b : ℕ} → (a < b → ⊥) → b ≤ a
 le-of-not-lt h = omega arith
@@ -155,3 +155,7 @@ decimal-value n h = decimalIn-value 20 n h
 pub decimal-numeral : (n : ℕ) → n < 10 ^ maxDigits → isNumeral (decimal n) ≡ true
 decimal-numeral n h =
     numeral-yes (decimal n) (decimal-some n) (decimal-length maxDigits n (omega arith) h) (decimal-digits n)
+
+-- and read back as itself
+pub decimal-read : (n : ℕ) → n < 10 ^ maxDigits → readNumeral (decimal n) ≡ record { ok = true; value = n }
+decimal-read n h = sym (read-yes (decimal n) n (decimal-numeral n h) (sym (decimal-value n (omega arith))))

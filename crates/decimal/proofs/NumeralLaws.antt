@@ -49,6 +49,13 @@ allDigits-append (x ∷ xs) ys h k =
     (and-left (isDigit x) (allDigits xs) h)
     (allDigits-append xs ys (and-right (isDigit x) (allDigits xs) h) k)
 
+-- each byte of digits is a digit
+pub allDigits-at : (w : List ℕ) (i : ℕ) → allDigits w ≡ true → i < length w → isDigit (getD w i 0) ≡ true
+unfolding allDigits
+allDigits-at [] i h l = absurd (omega arith)
+allDigits-at (b ∷ w) zero h l = and-left (isDigit b) (allDigits w) h
+allDigits-at (b ∷ w) (suc i) h l = allDigits-at w i (and-right (isDigit b) (allDigits w) h) (omega arith)
+
 -- the digits from i on are the one at i and those after it
 pub allDigits-step : (w : List ℕ) (i : ℕ) → i < length w → allDigits (drop i w) ≡ isDigit (getD w i 0) && allDigits (drop (i + 1) w)
 unfolding allDigits

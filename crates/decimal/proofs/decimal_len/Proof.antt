@@ -1,4 +1,5 @@
-use borrow.Author.Needs.{needs}
+-- `decimal::decimal_len` meets its contract: each turn takes one digit off `rest` and counts it.
+-- The loop's invariant: what is counted and the digits of `rest` are together those of `x`, and the last one. The measure is `rest`. Assumes nothing.
 use mathlib.Core.Path.{_≡_}
 use Prim.Native.Nat.{_+_, _≤_}
 use native.Mathlib.Omega.{arith}
@@ -7,8 +8,6 @@ use Rattle.decimal.specs.Decimal.{decimal}
 use Rattle.decimal.proofs.DecimalLaws.{decimal-some, decimal-length, decimal-more, decimal-one}
 use Rattle.decimal.proofs.decimal_len.Statement.{statement}
 use Rattle.decimal.proofs.decimal_len.Tie as tie
-use Rattle.decimal.proofs.decimal_len.Reads as reads
-use Rattle.decimal.proofs.decimal_len.Lts as lts
 
 abbrev Inv-loop : tie.InvT-loop
 Inv-loop x rest₀ n₀ rest n = (rest ≤ x) × (n + length (decimal rest) ≡ length (decimal x) + 1)
@@ -20,7 +19,9 @@ loop-holds : tie.Need-loop-holds Inv-loop μ-loop
 loop-holds c = omega arith
 
 add-n : tie.Need-add-n Inv-loop μ-loop
-add-n c = omega (arith, decimal-some (c .before .loop .rest), decimal-length 20 (c .before .before .args .x) (omega arith) (omega arith))
+add-n c =
+    let x = c .before .before .args .x in
+    omega (arith, decimal-some (c .before .loop .rest), decimal-length 20 x (omega arith) (omega arith))
 
 loop-less : tie.Need-loop-less Inv-loop μ-loop
 loop-less c = omega arith

@@ -1,10 +1,7 @@
-use borrow.Author.Needs.{needs}
-use mathlib.Core.Bool.{_&&_}
+-- `decimal::is_digit` meets its contract: the two tests are the two of `isDigit`. Assumes nothing.
 use borrow.Author.Tests.{le-leb, lt-leb}
 use Rattle.decimal.proofs.is_digit.Statement.{statement}
 use Rattle.decimal.proofs.is_digit.Tie as tie
-use Rattle.decimal.proofs.is_digit.Reads as reads
-use Rattle.decimal.proofs.is_digit.Lts as lts
 
 returns : tie.Need-returns
 returns c = simp (le-leb _ _ (c .if1 .taken))

@@ -1,3 +1,4 @@
+-- `decimal::magnitude` meets its contract: below 0 the size is one more than -1 - x, which fits; else it is x. Assumes nothing.
 use mathlib.Core.Path.{_≡_, ap, _∙_}
 use mathlib.Core.Bool.{true, false}
 use Prim.Native.Nat.{ℕ, _-_, _<_, _≤_, _^_}
@@ -12,8 +13,6 @@ use Rattle.decimal.proofs.SignedLaws.{fits-as, read-as, cast-as, coded,
 use borrow.Author.Needs.{needs}
 use Rattle.decimal.proofs.magnitude.Statement.{statement}
 use Rattle.decimal.proofs.magnitude.Tie as tie
-use Rattle.decimal.proofs.magnitude.Reads as reads
-use Rattle.decimal.proofs.magnitude.Lts as lts
 
 -- the size is at most 2 ^ 63
 size : (c : tie.Start) → natAbs (c .args .x) ≤ 2 ^ 63
@@ -28,29 +27,23 @@ neg c = ap (λ (z : ℤ). negsuc 0 -ℤ z) (toZ-ofZ (c .before .fits .x)) ∙ ne
 fits : (c : tie.Then1) → SFits w64 (pos (natAbs (c .before .args .x) - 1))
 fits c = record { sfits = omega (arith, size (c .before), neg-one (c .before .args .x) (is-neg c)) }
 
--- src/lib.rt:142:10
 sub-result : tie.Need-sub-result
 sub-result c = fits-as (neg c) (fits c)
 
--- src/lib.rt:142:9
 cast-result : tie.Need-cast-result
 cast-result c = cast-as (read-as (neg c) (fits c)) (omega (arith, size (c .before)))
 
--- src/lib.rt:142:9
 add-result : tie.Need-add-result
 add-result c = omega (arith, ap natAbs (read-as (neg c) (fits c)), size (c .before))
 
--- src/lib.rt:144:9
 cast-result-2 : tie.Need-cast-result-2
 cast-result-2 c =
     coded (λ (z : ℤ). T (nonNeg z) × Fits w64 (natAbs z)) (c .before .fits .x)
     (pos-yes (c .before .args .x) (plain (λ (z : ℤ). ltZ z (pos 0) ≡ false) (c .before .fits .x) (c .if1 .left)), omega (arith, size (c .before)))
 
--- src/lib.rt:138:1
 returns : tie.Need-returns
 returns c = omega (arith, ap natAbs (read-as (neg c) (fits c)), neg-one (c .before .args .x) (is-neg c))
 
--- src/lib.rt:138:1
 returns-2 : tie.Need-returns-2
 returns-2 c = search needs
 

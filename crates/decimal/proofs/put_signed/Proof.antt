@@ -1,5 +1,6 @@
+-- `decimal::put_signed` meets its contract: the sign and then the size's digits are one write, by `overwrite-then`. Assumes nothing.
 use mathlib.Core.Path.{_≡_, ap, _∙_}
-use mathlib.Core.List.{List, [], _∷_}
+use mathlib.Core.List.{[], _∷_}
 use native.Mathlib.Omega.{arith}
 use lib.ListN.{length}
 use Rattle.decimal.specs.Bytes.{overwrite}
@@ -9,12 +10,16 @@ use Rattle.decimal.proofs.PutLaws.{signed-as}
 use borrow.Author.Needs.{needs}
 use Rattle.decimal.proofs.put_signed.Statement.{statement}
 use Rattle.decimal.proofs.put_signed.Tie as tie
-use Rattle.decimal.proofs.put_signed.Reads as reads
-use Rattle.decimal.proofs.put_signed.Lts as lts
-use Rattle.decimal.proofs.magnitude.Reads as magnitude-reads
-use Rattle.decimal.proofs.put_byte.Reads as put-byte-reads
-use Rattle.decimal.proofs.put_decimal.Reads as put-decimal-reads
-use Rattle.decimal.proofs.sign_byte.Reads as sign-byte-reads
+
+-- what is to be written
+text : (c : tie.After-magnitude)
+    → c .before .before .before .before .before .sign-byte .result ∷ decimal (c .magnitude .result)
+    ≡ signed (c .before .before .before .before .before .before .before .before .args .x)
+text c =
+    let s = c .before .before .before .before .before .before .before .before in
+    let m = c .magnitude in
+    let b = c .before .before .before .before .before .sign-byte in
+    signed-as (s .args .x) (s .fits .x) (m .result) (m .ensures) (b .result) (b .ensures)
 
 sign-byte-requires : tie.Need-sign-byte-requires
 sign-byte-requires c κs = search needs
@@ -26,25 +31,25 @@ magnitude-requires : tie.Need-magnitude-requires
 magnitude-requires c κs = search needs
 
 put-decimal-requires : tie.Need-put-decimal-requires
-put-decimal-requires c κs = 
-    let b = c .before .before .before .before .before .sign-byte .result in
-    let m = c .magnitude .result in
-    let text : b ∷ decimal m ≡ signed (c .before .before .before .before .before .before .before .before .args .x) = signed-as (c .before .before .before .before .before .before .before .before .args .x) (c .before .before .before .before .before .before .before .before .fits .x) m (c .magnitude .ensures) b (c .before .before .before .before .before .sign-byte .ensures) in
-    let size : length (b ∷ decimal m) ≡ length (signed (c .before .before .before .before .before .before .before .before .args .x)) = ap length text in
-    omega (arith, c .before .before .before .before .put-byte .kept, c .before .before .before .before .put-byte .ensures .1)
+put-decimal-requires c κs =
+    let p = c .before .before .before .before .put-byte in
+    omega (arith, p .kept, p .ensures .1, ap length (text c))
 
 same-length : tie.Need-same-length
 same-length c = search needs
 
 returns : tie.Need-returns
-returns c = 
-    let b = c .before .before .before .before .before .before .before .before .sign-byte .result in
-    let m = c .before .before .before .magnitude .result in
-    let text : b ∷ decimal m ≡ signed (c .before .before .before .before .before .before .before .before .before .before .before .args .x) = signed-as (c .before .before .before .before .before .before .before .before .before .before .before .args .x) (c .before .before .before .before .before .before .before .before .before .before .before .fits .x) m (c .before .before .before .magnitude .ensures) b (c .before .before .before .before .before .before .before .before .sign-byte .ensures) in
-    let size : length (b ∷ decimal m) ≡ length (signed (c .before .before .before .before .before .before .before .before .before .before .before .args .x)) = ap length text in
-    (overwrite-then (c .before .before .before .before .before .before .before .before .before .before .before .args .out .now) (c .before .before .before .before .before .before .before .before .before .before .before .args .at) (b ∷ []) (decimal m) (omega arith) (c .before .before .before .before .before .before .before .put-byte .ensures .0) (c .before .before .before .before .before .before .before .put-byte .ensures .1) (c .before .before .put-decimal .ensures .0)
-    ∙ ap (overwrite (c .before .before .before .before .before .before .before .before .before .before .before .args .out .now) (c .before .before .before .before .before .before .before .before .before .before .before .args .at)) text,
-    omega (arith, c .before .before .before .before .before .before .before .put-byte .ensures .1, c .before .before .put-decimal .ensures .1))
+returns c =
+    let d = c .before .before .put-decimal in
+    let t = c .before .before .before in
+    let p = t .before .before .before .before .put-byte in
+    let b = t .before .before .before .before .before .sign-byte .result in
+    let a = t .before .before .before .before .before .before .before .before .args in
+    let m = t .magnitude .result in
+    let size : length (b ∷ decimal m) ≡ length (signed (a .x)) = ap length (text t) in
+    (overwrite-then (a .out .now) (a .at) (b ∷ []) (decimal m) (omega arith) (p .ensures .0) (p .ensures .1) (d .ensures .0)
+    ∙ ap (overwrite (a .out .now) (a .at)) (text t),
+    omega (arith, p .ensures .1, d .ensures .1))
 
 pub put-signed-spec : {M : Type 1} → statement M
 put-signed-spec =
