@@ -79,11 +79,12 @@ decimalIn-length (suc fuel) (suc zero) n some h = omega (arith, ap length (decim
 decimalIn-length (suc fuel) (suc (suc k)) n some h =
     by-size n
     (λ l. omega (arith, ap length (decimalIn-small fuel n l)))
-    (λ l. omega
-    (arith,
-    ap length (decimalIn-large fuel n l),
-    snoc-length (decimalIn fuel (n / 10)) (digitByte (n % 10)),
-    decimalIn-length fuel (suc k) (n / 10) (omega arith) (tenth-less (suc k) n h)))
+    (λ l. omega (
+      arith,
+      ap length (decimalIn-large fuel n l),
+      snoc-length (decimalIn fuel (n / 10)) (digitByte (n % 10)),
+      decimalIn-length fuel (suc k) (n / 10) (omega arith) (tenth-less (suc k) n h),
+    ))
 
 -- one digit more than its tenth has
 pub decimal-more : (n : ℕ) → 10 ≤ n → n < 10 ^ 20 → length (decimal n) ≡ length (decimal (n / 10)) + 1
@@ -125,11 +126,12 @@ decimalIn-first (suc zero) n some h = omega (arith, ap (λ (ds : List ℕ). getD
 decimalIn-first (suc (suc fuel)) n some h =
     by-size n
     (λ l. omega (arith, ap (λ (ds : List ℕ). getD ds 0 0) (decimalIn-small (suc fuel) n l)))
-    (λ l. omega
-    (arith,
-    ap (λ (ds : List ℕ). getD ds 0 0) (decimalIn-large (suc fuel) n l),
-    List·getD-append (decimalIn (suc fuel) (n / 10)) (digitByte (n % 10) ∷ []) 0 0 (decimalIn-some fuel (n / 10)),
-    decimalIn-first (suc fuel) (n / 10) (omega arith) (tenth-less (suc fuel) n h)))
+    (λ l. omega (
+      arith,
+      ap (λ (ds : List ℕ). getD ds 0 0) (decimalIn-large (suc fuel) n l),
+      List·getD-append (decimalIn (suc fuel) (n / 10)) (digitByte (n % 10) ∷ []) 0 0 (decimalIn-some fuel (n / 10)),
+      decimalIn-first (suc fuel) (n / 10) (omega arith) (tenth-less (suc fuel) n h),
+    ))
 
 -- no leading zero: the first byte is not 48, unless the number is 0
 pub decimal-first : (n : ℕ) → 1 ≤ n → n < 10 ^ 20 → getD (decimal n) 0 0 ≡ 48 → ⊥

@@ -97,9 +97,9 @@ overwrite-last xs at ys b h =
     let stored : i < length (set xs i b) = omega (arith, length-set xs i b) in
     let end : suc i ≡ at + length (ys ++ (b ∷ [])) = omega (arith, length-append ys (b ∷ [])) in
     let after : drop i (set xs i b) ≡ b ∷ drop (suc i) xs =
-            drop-cons (set xs i b) i 0 stored
-            ∙ ap (λ (y : ℕ). y ∷ drop (suc i) (set xs i b)) (getD-set-same xs i b 0 h)
-            ∙ ap (λ (l : List ℕ). b ∷ l) (drop-set-lt (suc i) xs i b (omega arith)) in
+    drop-cons (set xs i b) i 0 stored
+    ∙ ap (λ (y : ℕ). y ∷ drop (suc i) (set xs i b)) (getD-set-same xs i b 0 h)
+    ∙ ap (λ (l : List ℕ). b ∷ l) (drop-set-lt (suc i) xs i b (omega arith)) in
     ap (λ (l : List ℕ). l ++ (ys ++ drop i (set xs i b))) (take-set-le at xs i b (omega arith))
     ∙ ap (λ (l : List ℕ). take at xs ++ (ys ++ l)) (after ∙ ap (λ (k : ℕ). b ∷ drop k xs) end)
     ∙ ap (λ (l : List ℕ). take at xs ++ l) (sym (append-assoc ys (b ∷ []) (drop (at + length (ys ++ (b ∷ []))) xs)))

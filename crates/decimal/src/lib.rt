@@ -96,7 +96,7 @@ fn digit_byte(d: u64) -> u8
     requires { ⌜ d < 10 ⌝ }
     ensures { λ r. ⌜ r ≡ digitByte d ⌝ }
 {
-    48 + d as u8
+    b'0' + d as u8
 }
 
 // Writes x in decimal, without leading zeros: the last digit first, from the end that its length gives.
@@ -147,7 +147,7 @@ pub fn put_signed(out: &mut [u8], at: usize, x: i64) -> usize
 pub fn is_digit(b: u8) -> bool
     ensures { λ r. ⌜ r ≡ isDigit b ⌝ }
 {
-    48 <= b && b <= 57
+    b'0' <= b && b <= b'9'
 }
 
 // The value of a digit byte.
@@ -155,7 +155,7 @@ fn digit_value(b: u8) -> u64
     requires { ⌜ 48 ≤ b ⌝ }
     ensures { λ r. ⌜ r ≡ b - 48 ⌝ }
 {
-    (b - 48) as u64
+    (b - b'0') as u64
 }
 
 // Reads a word of 1 to 10 digits; leading zeros are allowed.
@@ -164,20 +164,32 @@ pub fn read_numeral(word: &[u8]) -> Numeral
     ensures { λ r. ⌜ r ≡ readNumeral (now (word .entry)) ⌝ }
 {
     if word.len() < 1 {
-        return Numeral { ok: false, value: 0 };
+        return Numeral {
+            ok: false,
+            value: 0,
+        };
     }
     if Numeral::MAX_DIGITS < word.len() {
-        return Numeral { ok: false, value: 0 };
+        return Numeral {
+            ok: false,
+            value: 0,
+        };
     }
     let mut value: u64 = 0;
     let mut i = 0;
     while i < word.len() {
         let b = word[i];
         if !is_digit(b) {
-            return Numeral { ok: false, value: 0 };
+            return Numeral {
+                ok: false,
+                value: 0,
+            };
         }
         value = value * 10 + digit_value(b);
         i += 1;
     }
-    Numeral { ok: true, value: value }
+    Numeral {
+        ok: true,
+        value: value,
+    }
 }

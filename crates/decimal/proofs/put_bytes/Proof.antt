@@ -37,10 +37,11 @@ loop-less c = search needs
 loop-again : tie.Need-loop-again Inv-loop μ-loop
 loop-again c =
     let l = c .before .before .loop in
-    let a = c .before .before .before .args in
-    (omega arith,
-    search needs,
-    copy-step (l .out) (a .out .now) (a .at) (a .bytes .now) (l .i) (l .inv .2) (omega arith) (omega arith))
+    let a = c .before .before .before .args in (
+      omega arith,
+      search needs,
+      copy-step (l .out) (a .out .now) (a .at) (a .bytes .now) (l .i) (l .inv .2) (omega arith) (omega arith),
+    )
 
 add-result : tie.Need-add-result Inv-loop μ-loop
 add-result c = search needs

@@ -57,12 +57,13 @@ loop-again c =
     let l = c .before .before .loop in
     let a = c .before .before .before .before .before .args in
     let d = c .digit-byte in
-    let more : length (decimal (l .rest)) ≡ length (decimal (l .rest / 10)) + 1 = decimal-more (l .rest) (omega arith) (omega arith) in
-    (omega arith,
-    search needs,
-    omega arith,
-    omega (arith, decimal-some (l .rest / 10)),
-    digit-step (l .out) (a .at) (l .rest) (l .i) (d .result) (omega arith) (omega arith) (omega arith) (omega arith) (d .ensures) ∙ l .inv .4)
+    let more : length (decimal (l .rest)) ≡ length (decimal (l .rest / 10)) + 1 = decimal-more (l .rest) (omega arith) (omega arith) in (
+      omega arith,
+      search needs,
+      omega arith,
+      omega (arith, decimal-some (l .rest / 10)),
+      digit-step (l .out) (a .at) (l .rest) (l .i) (d .result) (omega arith) (omega arith) (omega arith) (omega arith) (d .ensures) ∙ l .inv .4,
+    )
 
 digit-byte-requires-2 : tie.Need-digit-byte-requires-2 Inv-loop μ-loop
 digit-byte-requires-2 c κs = search needs

@@ -46,10 +46,11 @@ returns c =
     let t = p .before .before in
     let a = t .before .before .before .args in
     let m = t .before .magnitude .result in
-    let size : length (45 ∷ decimal m) ≡ length (integer (a .x)) = ap length (neg-text t) in
-    (overwrite-then (a .out .now) (a .at) (45 ∷ []) (decimal m) (omega arith) (p .put-byte .ensures .0) (p .put-byte .ensures .1) (d .ensures .0)
-    ∙ ap (overwrite (a .out .now) (a .at)) (neg-text t),
-    omega (arith, p .put-byte .ensures .1, d .ensures .1))
+    let size : length (45 ∷ decimal m) ≡ length (integer (a .x)) = ap length (neg-text t) in (
+      overwrite-then (a .out .now) (a .at) (45 ∷ []) (decimal m) (omega arith) (p .put-byte .ensures .0) (p .put-byte .ensures .1) (d .ensures .0)
+          ∙ ap (overwrite (a .out .now) (a .at)) (neg-text t),
+      omega (arith, p .put-byte .ensures .1, d .ensures .1),
+    )
 
 put-decimal-requires-2 : tie.Need-put-decimal-requires-2
 put-decimal-requires-2 c κs = omega (arith, ap length (pos-text (c .before)))

@@ -46,10 +46,11 @@ returns c =
     let b = t .before .before .before .before .before .sign-byte .result in
     let a = t .before .before .before .before .before .before .before .before .args in
     let m = t .magnitude .result in
-    let size : length (b ∷ decimal m) ≡ length (signed (a .x)) = ap length (text t) in
-    (overwrite-then (a .out .now) (a .at) (b ∷ []) (decimal m) (omega arith) (p .ensures .0) (p .ensures .1) (d .ensures .0)
-    ∙ ap (overwrite (a .out .now) (a .at)) (text t),
-    omega (arith, p .ensures .1, d .ensures .1))
+    let size : length (b ∷ decimal m) ≡ length (signed (a .x)) = ap length (text t) in (
+      overwrite-then (a .out .now) (a .at) (b ∷ []) (decimal m) (omega arith) (p .ensures .0) (p .ensures .1) (d .ensures .0)
+          ∙ ap (overwrite (a .out .now) (a .at)) (text t),
+      omega (arith, p .ensures .1, d .ensures .1),
+    )
 
 pub put-signed-spec : {M : Type 1} → statement M
 put-signed-spec =

@@ -85,12 +85,13 @@ loop-again : tie.Need-loop-again Inv-loop μ-loop
 loop-again c =
     let w = c .before .before .before .before .before .before .before .before .before .args .word .now in
     let l = c .before .before .before .before .before .loop in
-    let d = c .digit-value .ensures in
-    (omega arith,
-    value-step (l .value) (l .i) (c .digit-value .result) (l .inv .1) (omega (arith, most (c .before))),
-    ap (λ (b : ℕ). digitsValue (l .value * 10 + b) (drop (l .i + 1) w)) d
-    ∙ sym (digitsValue-step (l .value) w (l .i) (omega arith)) ∙ l .inv .2,
-    reader-go w (l .i) (omega arith) (l .inv .3) (digit (c .before)))
+    let d = c .digit-value .ensures in (
+      omega arith,
+      value-step (l .value) (l .i) (c .digit-value .result) (l .inv .1) (omega (arith, most (c .before))),
+      ap (λ (b : ℕ). digitsValue (l .value * 10 + b) (drop (l .i + 1) w)) d
+          ∙ sym (digitsValue-step (l .value) w (l .i) (omega arith)) ∙ l .inv .2,
+      reader-go w (l .i) (omega arith) (l .inv .3) (digit (c .before)),
+    )
 
 returns-4 : tie.Need-returns-4 Inv-loop μ-loop
 returns-4 c =
