@@ -32,7 +32,7 @@ isKept Comment b = false
 
 -- A byte that is kept and is no blank begins a word or is a `;`.
 abbrev pub begins : Place → ℕ → Bool
-begins p b = isKept p b && not (isBlank b)
+begins p b = not (isBlank b) && isKept p b
 
 -- The byte in front, if it is kept.
 abbrev pub keep : Bool → ℕ → List ℕ → List ℕ

@@ -1,5 +1,5 @@
 -- Document 01, 'Instance text': words are divided by blanks; `;` needs none before it.
-use mathlib.Core.Bool.{cond}
+use mathlib.Core.Bool.{Bool, true, false}
 use mathlib.Core.List.{List, [], _∷_}
 use Prim.Native.Nat.{ℕ}
 use lib.Dec.{eqb}
@@ -21,20 +21,23 @@ abbrev pub ended : List ℕ → List Mark → List Mark
 ended [] ms = ms
 ended (b ∷ w) ms = word (b ∷ w) ∷ ms
 
+-- The words and `;` of a scan, in their order.
+abbrev pub shown : Scan → List Mark
+shown s = ended (s .begun) (s .marks)
+
 -- One byte in front: a blank ends the word before it, `;` does and is a mark, any other byte is part of the word.
-abbrev pub put : ℕ → Scan → Scan
-put b s =
-    cond (isBlank b) (record { begun = []; marks = ended (s .begun) (s .marks) })
-    (cond (eqb b 59) (record { begun = []; marks = stop ∷ ended (s .begun) (s .marks) })
-    (record { begun = b ∷ s .begun; marks = s .marks }))
+abbrev pub put : Bool → Bool → ℕ → Scan → Scan
+put true semicolon b s = record { begun = []; marks = shown s }
+put false true b s = record { begun = []; marks = stop ∷ shown s }
+put false false b s = record { begun = b ∷ s .begun; marks = s .marks }
 
 unfoldable pub scan : List ℕ → Scan
 scan [] = record { begun = []; marks = [] }
-scan (b ∷ bs) = put b (scan bs)
+scan (b ∷ bs) = put (isBlank b) (eqb b 59) b (scan bs)
 
--- The words and `;` of a text without comments, in their order.
+-- The words and `;` of a text without comments.
 abbrev pub marksOf : List ℕ → List Mark
-marksOf bs = ended (scan bs .begun) (scan bs .marks)
+marksOf bs = shown (scan bs)
 
 -- The words and `;` of a text, or of a part of it that begins at a place of a line.
 abbrev pub marksAt : Place → List ℕ → List Mark

@@ -5,7 +5,7 @@ pub mod numbers;
 ghost use mathlib.Core.Path.{_≡_};
 ghost use Prim.Native.Nat.{_≤_};
 ghost use lib.ListN.{length};
-ghost use Rattle.words.specs.Bytes.{isBlank, isPlain, nextPlace, isKept, begins};
+ghost use Rattle.words.specs.Bytes.{isBlank, isPlain, placeAfter, nextPlace, isKept, begins};
 ghost use Rattle.words.specs.Answers.{Skipped, WordEnd, NextToken};
 
 // Where a byte stands: at a line's beginning, further on, or in a comment.
@@ -19,14 +19,36 @@ pub enum Place {
 pub fn is_blank(b: u8) -> bool
     ensures { λ r. ⌜ r ≡ isBlank b ⌝ }
 {
-    b == b' ' || b == b'\t' || b == b'\r' || b == b'\n'
+    if b == b' ' {
+        return true;
+    }
+    if b == b'\t' {
+        return true;
+    }
+    if b == b'\r' {
+        return true;
+    }
+    b == b'\n'
 }
 
 // Whether a byte is part of a word.
 pub fn is_plain(b: u8) -> bool
     ensures { λ r. ⌜ r ≡ isPlain b ⌝ }
 {
-    !(is_blank(b) || b == b';')
+    if is_blank(b) {
+        return false;
+    }
+    b != b';'
+}
+
+// Where the byte after b stands, outside a comment.
+pub fn place_after(b: u8) -> Place
+    ensures { λ r. ⌜ r ≡ placeAfter b ⌝ }
+{
+    if b == b'\n' {
+        return Place::Start;
+    }
+    Place::Inside
 }
 
 // Where the byte after b stands.
@@ -34,14 +56,19 @@ pub fn next_place(place: Place, b: u8) -> Place
     ensures { λ r. ⌜ r ≡ nextPlace place b ⌝ }
 {
     match place {
-        Place::Inside => if b == b'\n' { Place::Start } else { Place::Inside },
+        Place::Inside => place_after(b),
         Place::Start => {
             if b == b'*' {
                 return Place::Comment;
             }
-            if b == b'\n' { Place::Start } else { Place::Inside }
+            place_after(b)
         }
-        Place::Comment => if b == b'\n' { Place::Start } else { Place::Comment },
+        Place::Comment => {
+            if b == b'\n' {
+                return Place::Start;
+            }
+            Place::Comment
+        }
     }
 }
 
@@ -60,7 +87,10 @@ pub fn is_kept(place: Place, b: u8) -> bool
 pub fn begins_token(place: Place, b: u8) -> bool
     ensures { λ r. ⌜ r ≡ begins place b ⌝ }
 {
-    is_kept(place, b) && !is_blank(b)
+    if is_blank(b) {
+        return false;
+    }
+    is_kept(place, b)
 }
 
 // The first byte from `from` on that is neither blank nor in a comment, or the end.
