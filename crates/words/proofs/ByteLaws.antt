@@ -1,7 +1,11 @@
 -- Laws of bytes and places. Assumes nothing.
 use mathlib.Core.Path.{_≡_, refl, sym, ap, _∙_, subst}
 use mathlib.Core.Bool.{Bool, true, false, not, cond, _||_, _&&_}
-use Prim.Native.Nat.{ℕ}
+use mathlib.Core.List.{List}
+use Prim.Native.Nat.{ℕ, _+_, _≤_, _<_}
+use native.Mathlib.Decide.{decLt}
+use native.Mathlib.Omega.{arith}
+use lib.ListN.{getD}
 use lib.Dec.{T, eqb}
 use borrow.Author.Tests.{ne-eqb, eq-eqb, eqb-true, not-true}
 use Rattle.words.specs.declared.Place.{Place}
@@ -9,8 +13,8 @@ use Rattle.words.specs.declared.Place.the-variants.{Inside, Start, Comme
 use Rattle.words.specs.Bytes.{isBlank, isPlain, begins, isKept, placeAfter, nextPlace}
 
 -- false is not true
-pub no : {A : Type 0} → false ≡ true → A
-no e = absurd (subst T (sym e) tt)
+pub clash : {A : Type 0} → false ≡ true → A
+clash e = absurd (subst T (sym e) tt)
 
 -- ---- isBlank
 
@@ -24,7 +28,7 @@ blank-last b h k l = sym (by (ne-eqb b 32 h) (ne-eqb b 9 k) (ne-eqb b 13 l))
         ∙ ap (λ (t : Bool). t || eqb b 10) g
 
 or-false : (s t : Bool) → s || t ≡ false → (s ≡ false) × (t ≡ false)
-or-false true t e = no (sym e)
+or-false true t e = clash (sym e)
 or-false false t e = (refl, e)
 
 -- ---- isPlain
@@ -54,14 +58,28 @@ begins-false {A} p b e f g = by (isBlank b) (isKept p b) refl refl e
     by : (t k : Bool) → isBlank b ≡ t → isKept p b ≡ k → not t && k ≡ false → A
     by true true h i e = g i h
     by true false h i e = f i
-    by false true h i e = no (sym e)
+    by false true h i e = clash (sym e)
     by false false h i e = f i
 
 pub begins-true : (p : Place) (b : ℕ) → begins p b ≡ true → (isKept p b ≡ true) × (isBlank b ≡ false)
 begins-true p b e = by (isBlank b) (isKept p b) refl refl e
   where
     by : (t k : Bool) → isBlank b ≡ t → isKept p b ≡ k → not t && k ≡ true → (isKept p b ≡ true) × (isBlank b ≡ false)
-    by true true h i e = no e
-    by true false h i e = no e
+    by true true h i e = clash e
+    by true false h i e = clash e
     by false true h i e = (i, h)
-    by false false h i e = no e
+    by false false h i e = clash e
+
+-- ---- runs of a text
+
+-- one plain byte more
+pub plain-more : (text : List ℕ) (first i : ℕ) → ((k : ℕ) → first ≤ k → k < i → isPlain (getD text k 0) ≡ true) → isPlain (getD text i 0) ≡ true
+  → (k : ℕ) → first ≤ k → k < i + 1 → isPlain (getD text k 0) ≡ true
+plain-more text first i h e k l m = by (decLt k i)
+  where
+    by : Dec (k < i) → isPlain (getD text k 0) ≡ true
+    by (yes u) = h k l u
+    by (no u) = ap (λ (j : ℕ). isPlain (getD text j 0)) same ∙ e
+      where
+        same : k ≡ i
+        same = omega arith

@@ -1,20 +1,21 @@
 -- Laws of the marks of a text: what skipping a byte, a word or a `;` leaves. Assumes nothing.
 use mathlib.Core.Path.{_≡_, refl, sym, ap, _∙_, subst}
 use mathlib.Core.Bool.{Bool, true, false, not, cond, _||_}
-use mathlib.Core.List.{List, [], _∷_, _++_}
+use mathlib.Core.List.{List, [], _∷_, _++_, append-nil}
 use Prim.Native.Nat.{ℕ, zero, suc, _+_, _-_, _≤_, _<_}
+use native.Mathlib.Decide.{decLt}
 use native.Mathlib.Omega.{arith}
 use native.Mathlib.Numerals.{add-one}
 use lib.Dec.{eqb}
-use lib.ListN.{length, getD, take, drop, take-append-drop, drop-of-length-le}
+use lib.ListN.{length, getD, take, drop, take-append-drop, drop-of-length-le, length-drop}
 use lib.Seq.{drop-cons, drop-drop, getD-take, getD-drop, length-take-le}
-use borrow.Author.Tests.{eq-eqb, not-true}
+use borrow.Author.Tests.{ne-eqb, not-true}
 use Rattle.words.specs.declared.Place.{Place}
 use Rattle.words.specs.declared.Place.the-variants.{Inside, Start, Comment}
 use Rattle.words.specs.Bytes.{isBlank, isPlain, begins, isKept, keep, placeAfter, nextPlace, uncommented}
 use Rattle.words.specs.Tokens.{Mark, word, stop, Scan, ended, shown, put, scan, marksOf, marksAt}
 use Rattle.words.specs.Answers.{part, WordEnd}
-use Rattle.words.proofs.ByteLaws.{no, plain-blank, plain-stop, not-blank-after, begins-false, begins-true}
+use Rattle.words.proofs.ByteLaws.{clash, plain-blank, plain-stop, not-blank-after, begins-false, begins-true}
 
 -- ---- one byte
 
@@ -38,14 +39,11 @@ marks-skip p b bs e = ap marksOf (unc-cons p b bs) ∙ begins-false p b e
 kept-inside : (p : Place) (b : ℕ) (bs : List ℕ) → isKept p b ≡ true → uncommented p (b ∷ bs) ≡ uncommented Inside (b ∷ bs)
 kept-inside Inside b bs h = refl
 kept-inside Start b bs h = unc-cons Start b bs ∙ ap (λ (t : Bool). keep (not t) b (uncommented (cond t Comment (placeAfter b)) bs)) (not-true (eqb b 42) h) ∙ sym (unc-cons Inside b bs)
-kept-inside Comment b bs h = no h
+kept-inside Comment b bs h = clash h
 
 -- ---- a place of a text
 
 module _ (text : List ℕ) (p : Place) (i : ℕ) where
-  abbrev byte : ℕ
-  byte = getD text i 0
-
   pub skip-step : i < length text → begins p (getD text i 0) ≡ false → marksAt p (drop i text) ≡ marksAt (nextPlace p (getD text i 0)) (drop (i + 1) text)
   skip-step h e =
       ap (marksAt p) (drop-cons text i 0 h) ∙ marks-skip p (getD text i 0) (drop (suc i) text) e
@@ -101,4 +99,60 @@ no-word b bs h = ap (λ (s : Scan). s .begun) (ap scan (unc-cons Inside b bs) �
     by : (t u : Bool) → isBlank b ≡ t → eqb b 59 ≡ u → isPlain b ≡ false → put t u b (scan (uncommented (placeAfter b) bs)) .begun ≡ []
     by true u e f h = refl
     by false true e f h = refl
-    by false false e f h = no (sym h ∙ ap (λ (t : Bool). not (t || eqb b 59)) e ∙ ap not f)
+    by false false e f h = clash (sym h ∙ ap (λ (t : Bool). not (t || eqb b 59)) e ∙ ap not f)
+
+rest-word : (text : List ℕ) (r : ℕ) → (r < length text → isPlain (getD text r 0) ≡ false) → r ≤ length text → scanAt (drop r text) .begun ≡ []
+unfolding scanAt uncommented scan
+rest-word text r f h = by (decLt r (length text))
+  where
+    ended-text : length text ≤ r → scanAt (drop r text) .begun ≡ []
+    ended-text l = ap (λ (bs : List ℕ). scanAt bs .begun) (drop-of-length-le text l)
+
+    by : Dec (r < length text) → scanAt (drop r text) .begun ≡ []
+    by (yes l) = ap (λ (bs : List ℕ). scanAt bs .begun) (drop-cons text r 0 l) ∙ no-word (getD text r 0) (drop (suc r) text) (f l)
+    by (no n) = ended-text (omega arith)
+
+one-word : (w : List ℕ) (ms : List Mark) → 1 ≤ length w → ended (w ++ []) ms ≡ word w ∷ ms
+one-word [] ms h = absurd (omega arith)
+one-word (b ∷ w) ms h = ap (λ (v : List ℕ). word v ∷ ms) (append-nil (b ∷ w))
+
+module _ (text : List ℕ) (i r : ℕ) (e : WordEnd text i r) where
+  split : drop i text ≡ part text i r ++ drop r text
+  split = sym (take-append-drop (r - i) (drop i text)) ∙ ap (λ (bs : List ℕ). part text i r ++ bs) (drop-drop (r - i) i text ∙ ap (λ (k : ℕ). drop k text) up)
+    where
+      up : i + (r - i) ≡ r
+      up = omega (arith, e .low)
+
+  size : length (part text i r) ≡ r - i
+  size = length-take-le (r - i) (drop i text) (simp length-drop (omega (arith, e .low, e .high)))
+
+  all-plain : (k : ℕ) → k < length (part text i r) → isPlain (getD (part text i r) k 0) ≡ true
+  all-plain k h = ap isPlain (getD-take (r - i) (drop i text) k 0 less ∙ getD-drop i text k 0) ∙ e .plain (i + k) (omega arith) (omega (arith, e .low, less))
+    where
+      less : k < r - i
+      less = omega (arith, size)
+
+  pub word-marks : i < r → marksAt Inside (drop i text) ≡ word (part text i r) ∷ marksAt Inside (drop r text)
+  unfolding scanAt
+  word-marks h =
+      ap (marksAt Inside) split ∙ ap shown (word-run (part text i r) (drop r text) all-plain)
+      ∙ ap (λ (w : List ℕ). ended (part text i r ++ w) (scanAt (drop r text) .marks)) none
+      ∙ one-word (part text i r) (scanAt (drop r text) .marks) (omega (arith, size))
+      ∙ ap (λ (w : List ℕ). word (part text i r) ∷ ended w (scanAt (drop r text) .marks)) (sym none)
+    where
+      none : scanAt (drop r text) .begun ≡ []
+      none = rest-word text r (e .found) (e .high)
+
+  -- a byte that is neither blank nor `;` is part of the word
+  pub word-more : i < length text → isBlank (getD text i 0) ≡ false → (getD text i 0 ≡ 59 → ⊥) → i < r
+  word-more l b n = by (decLt i r)
+    where
+      plain : isPlain (getD text i 0) ≡ true
+      plain = ap (λ (t : Bool). not (t || eqb (getD text i 0) 59)) b ∙ ap not (ne-eqb (getD text i 0) 59 n)
+
+      by : Dec (i < r) → i < r
+      by (yes h) = h
+      by (no h) = clash (sym (e .found (omega (arith, e .low))) ∙ ap (λ (k : ℕ). isPlain (getD text k 0)) same ∙ plain)
+        where
+          same : r ≡ i
+          same = omega (arith, e .low)

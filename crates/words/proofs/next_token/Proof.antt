@@ -1,3 +1,9 @@
+use mathlib.Core.Path.{_≡_, refl, sym, ap, _∙_}
+use Prim.Native.Nat.{ℕ, _+_, _-_, _≤_, _<_}
+use native.Mathlib.Omega.{arith}
+use native.Mathlib.Nat.{le-refl}
+use lib.ListN.{length, getD, drop}
+use Rattle.words.proofs.MarkLaws.{none-end, stop-marks, word-marks, word-more}
 use borrow.Author.Needs.{needs}
 use Rattle.words.proofs.next_token.Statement.{statement}
 use Rattle.words.proofs.next_token.Tie as tie
@@ -6,33 +12,26 @@ use Rattle.words.proofs.next_token.Lts as lts
 use Rattle.words.proofs.skip_blanks.Reads as skip-blanks-reads
 use Rattle.words.proofs.word_end.Reads as word-end-reads
 
--- src/lib.rt:147:9
 skip-blanks-requires : tie.Need-skip-blanks-requires
 skip-blanks-requires c κs = search needs
 
--- src/lib.rt:149:9
 returns : tie.Need-returns
-returns c = ?
+returns c = record { low = (c .before .skip-blanks .ensures) .low; order = omega arith; high = (c .before .skip-blanks .ensures) .high; kind = omega arith; used = λ h. absurd (omega arith); marks = (c .before .skip-blanks .ensures) .same ∙ none-end (c .before .before .before .args .text .now) (c .before .skip-blanks .result) (c .if1 .taken) }
 
--- src/lib.rt:155:8
 shared-slice-read-if2 : tie.Need-shared-slice-read-if2
 shared-slice-read-if2 c = search needs
 
--- src/lib.rt:159:18
 add-t10 : tie.Need-add-t10
 add-t10 c = search needs
 
--- src/lib.rt:156:9
 returns-2 : tie.Need-returns-2
-returns-2 c = ?
+returns-2 c = record { low = (c .before .before .before .skip-blanks .ensures) .low; order = omega arith; high = omega (arith, c .before .before .if1 .left); kind = omega arith; used = λ _. omega arith; marks = (c .before .before .before .skip-blanks .ensures) .same ∙ stop-marks (c .before .before .before .before .before .args .text .now) (c .before .before .before .skip-blanks .result) (c .before .before .if1 .left) (c .if2 .taken) }
 
--- src/lib.rt:162:9
 word-end-requires : tie.Need-word-end-requires
 word-end-requires c κs = search needs
 
--- src/lib.rt:143:1
 returns-3 : tie.Need-returns-3
-returns-3 c = ?
+returns-3 c = record { low = (c .before .before .before .before .skip-blanks .ensures) .low; order = c .word-end .ensures .low; high = c .word-end .ensures .high; kind = omega arith; used = λ _. word-more (c .before .before .before .before .before .before .args .text .now) (c .before .before .before .before .skip-blanks .result) (c .word-end .result) (c .word-end .ensures) (c .before .before .before .if1 .left) ((c .before .before .before .before .skip-blanks .ensures) .found (c .before .before .before .if1 .left)) (c .before .if2 .left); marks = (c .before .before .before .before .skip-blanks .ensures) .same ∙ word-marks (c .before .before .before .before .before .before .args .text .now) (c .before .before .before .before .skip-blanks .result) (c .word-end .result) (c .word-end .ensures) (word-more (c .before .before .before .before .before .before .args .text .now) (c .before .before .before .before .skip-blanks .result) (c .word-end .result) (c .word-end .ensures) (c .before .before .before .if1 .left) ((c .before .before .before .before .skip-blanks .ensures) .found (c .before .before .before .if1 .left)) (c .before .if2 .left)) }
 
 pub next-token-spec : {M : Type 1} → statement M
 next-token-spec =

@@ -1,3 +1,12 @@
+use borrow.Author.Needs.{needs}
+use mathlib.Core.Path.{_≡_, refl, sym, ap, _∙_}
+use Prim.Native.Nat.{ℕ, _+_, _-_, _≤_, _<_}
+use native.Mathlib.Omega.{arith}
+use lib.ListN.{length, getD, drop}
+use Rattle.words.specs.declared.Place.{Place}
+use Rattle.words.specs.Tokens.{marksAt}
+use Rattle.words.proofs.ByteLaws.{begins-true}
+use Rattle.words.proofs.MarkLaws.{skip-step, skip-stop, skip-end}
 use Rattle.words.proofs.skip_blanks.Statement.{statement}
 use Rattle.words.proofs.skip_blanks.Tie as tie
 use Rattle.words.proofs.skip_blanks.Reads as reads
@@ -6,46 +15,37 @@ use Rattle.words.proofs.begins_token.Reads as begins-token-reads
 use Rattle.words.proofs.next_place.Reads as next-place-reads
 
 abbrev Inv-loop : tie.InvT-loop
-Inv-loop text from i₀ p₀ i p = ?
+Inv-loop text from i₀ p₀ i p = (from ≤ i) × (i ≤ length text) × (marksAt p₀ (drop from text) ≡ marksAt p (drop i text))
 
 abbrev μ-loop : tie.MeasureT-loop
-μ-loop text from i₀ p₀ i p = ?
+μ-loop text from i₀ p₀ i p = length text - i
 
--- src/lib.rt:73:5
 loop-holds : tie.Need-loop-holds Inv-loop μ-loop
-loop-holds c = ?
+loop-holds c = (omega arith, omega arith, refl)
 
--- src/lib.rt:74:17
 shared-slice-read-b : tie.Need-shared-slice-read-b Inv-loop μ-loop
-shared-slice-read-b c = ?
+shared-slice-read-b c = search needs
 
--- src/lib.rt:75:12
 begins-token-requires : tie.Need-begins-token-requires Inv-loop μ-loop
-begins-token-requires c κs = ?
+begins-token-requires c κs = search needs
 
--- src/lib.rt:76:13
 returns : tie.Need-returns Inv-loop μ-loop
-returns c = ?
+returns c = record { low = (c .before .before .before .before .loop .inv) .0; high = (c .before .before .before .before .loop .inv) .1; same = (c .before .before .before .before .loop .inv) .2 ∙ skip-stop (c .before .before .before .before .before .before .args .text .now) (c .before .before .before .before .loop .p) (c .before .before .before .before .loop .i) (c .before .before .before .loop-test .taken) (sym (c .before .begins-token .ensures) ∙ c .if1 .taken); found = λ _. begins-true (c .before .before .before .before .loop .p) (getD (c .before .before .before .before .before .before .args .text .now) (c .before .before .before .before .loop .i) 0) (sym (c .before .begins-token .ensures) ∙ c .if1 .taken) .1 }
 
--- src/lib.rt:78:9
 next-place-requires : tie.Need-next-place-requires Inv-loop μ-loop
-next-place-requires c κs = ?
+next-place-requires c κs = search needs
 
--- src/lib.rt:79:9
 add-i : tie.Need-add-i Inv-loop μ-loop
-add-i c = ?
+add-i c = search needs
 
--- src/lib.rt:73:5
 loop-less : tie.Need-loop-less Inv-loop μ-loop
-loop-less c = ?
+loop-less c = search needs
 
--- src/lib.rt:73:5
 loop-again : tie.Need-loop-again Inv-loop μ-loop
-loop-again c = ?
+loop-again c = (omega arith, omega arith, (c .before .before .before .before .before .loop .inv) .2 ∙ skip-step (c .before .before .before .before .before .before .before .args .text .now) (c .before .before .before .before .before .loop .p) (c .before .before .before .before .before .loop .i) (c .before .before .before .before .loop-test .taken) (sym (c .before .before .begins-token .ensures) ∙ c .before .if1 .left) ∙ ap (λ (p : Place). marksAt p (drop ((c .before .before .before .before .before .loop .i) + 1) (c .before .before .before .before .before .before .before .args .text .now))) (sym (c .next-place .ensures)))
 
--- src/lib.rt:67:1
 returns-2 : tie.Need-returns-2 Inv-loop μ-loop
-returns-2 c = ?
+returns-2 c = record { low = (c .before .loop .inv) .0; high = (c .before .loop .inv) .1; same = (c .before .loop .inv) .2 ∙ skip-end (c .before .before .before .args .text .now) (c .before .loop .p) (c .before .loop .i) (c .loop-test .left); found = λ h. absurd (omega arith) }
 
 pub skip-blanks-spec : {M : Type 1} → statement M
 skip-blanks-spec =
