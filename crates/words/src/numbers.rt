@@ -60,29 +60,50 @@ pub fn read_literal(word: &[u8]) -> Number
     if word[0] == b'x' {
         return read_digits(&word[1..], false);
     }
-    if word[0] == b'~' && word[1] == b'x' {
-        return read_digits(&word[2..], true);
+    if word[0] != b'~' {
+        return no_number();
     }
-    no_number()
+    if word[1] != b'x' {
+        return no_number();
+    }
+    read_digits(&word[2..], true)
 }
 
-// The kind of row that a relation stands for: 2 `>=`, 3 `<=`, 4 `=`, and 0 for any other word.
+// The kinds of row that relations stand for, and 0 for a word that is none.
+pub struct Relation {
+    pub kind: u64,
+}
+
+impl Relation {
+    pub const NONE: u64 = 0;
+    pub const AT_LEAST: u64 = 2;
+    pub const AT_MOST: u64 = 3;
+    pub const EQUAL: u64 = 4;
+}
+
+// The kind of row that a word stands for: `>=`, `<=`, `=`, and none for any other word.
 pub fn read_relation(word: &[u8]) -> u64
     ensures { λ r. ⌜ r ≡ relation (now (word .entry)) ⌝ }
 {
     if word.len() == 1 {
-        return if word[0] == b'=' { 4 } else { 0 };
+        if word[0] == b'=' {
+            return Relation::EQUAL;
+        }
+        return Relation::NONE;
     }
     if word.len() != 2 {
-        return 0;
+        return Relation::NONE;
     }
     if word[1] != b'=' {
-        return 0;
+        return Relation::NONE;
     }
     if word[0] == b'>' {
-        return 2;
+        return Relation::AT_LEAST;
     }
-    if word[0] == b'<' { 3 } else { 0 }
+    if word[0] == b'<' {
+        return Relation::AT_MOST;
+    }
+    Relation::NONE
 }
 
 // Whether a word is `min:`.
@@ -92,5 +113,14 @@ pub fn is_min(word: &[u8]) -> bool
     if word.len() != 4 {
         return false;
     }
-    word[0] == b'm' && word[1] == b'i' && word[2] == b'n' && word[3] == b':'
+    if word[0] != b'm' {
+        return false;
+    }
+    if word[1] != b'i' {
+        return false;
+    }
+    if word[2] != b'n' {
+        return false;
+    }
+    word[3] == b':'
 }

@@ -4,33 +4,41 @@ use Rattle.words.proofs.numbers.is_min.Tie as tie
 use Rattle.words.proofs.numbers.is_min.Reads as reads
 use Rattle.words.proofs.numbers.is_min.Lts as lts
 
--- src/numbers.rt:93:9
+-- src/numbers.rt:114:9
 returns : tie.Need-returns
 returns c = ?
 
--- src/numbers.rt:95:5
+-- src/numbers.rt:116:8
 shared-slice-read-if2 : tie.Need-shared-slice-read-if2
 shared-slice-read-if2 c = search needs
 
--- src/numbers.rt:95:24
-shared-slice-read-if3 : tie.Need-shared-slice-read-if3
-shared-slice-read-if3 c = search needs
-
--- src/numbers.rt:95:43
-shared-slice-read-if4 : tie.Need-shared-slice-read-if4
-shared-slice-read-if4 c = search needs
-
--- src/numbers.rt:95:62
-shared-slice-read-result : tie.Need-shared-slice-read-result
-shared-slice-read-result c = search needs
-
--- src/numbers.rt:89:1
+-- src/numbers.rt:117:9
 returns-2 : tie.Need-returns-2
 returns-2 c = ?
 
--- src/numbers.rt:89:1
+-- src/numbers.rt:119:8
+shared-slice-read-if3 : tie.Need-shared-slice-read-if3
+shared-slice-read-if3 c = search needs
+
+-- src/numbers.rt:120:9
 returns-3 : tie.Need-returns-3
 returns-3 c = ?
+
+-- src/numbers.rt:122:8
+shared-slice-read-if4 : tie.Need-shared-slice-read-if4
+shared-slice-read-if4 c = search needs
+
+-- src/numbers.rt:123:9
+returns-4 : tie.Need-returns-4
+returns-4 c = ?
+
+-- src/numbers.rt:125:5
+shared-slice-read-result : tie.Need-shared-slice-read-result
+shared-slice-read-result c = search needs
+
+-- src/numbers.rt:110:1
+returns-5 : tie.Need-returns-5
+returns-5 c = ?
 
 pub is-min-spec : {M : Type 1} → statement M
 is-min-spec =
@@ -38,8 +46,10 @@ is-min-spec =
     (tie.spec
     returns
     shared-slice-read-if2
-    shared-slice-read-if3
-    shared-slice-read-if4
-    shared-slice-read-result
     returns-2
-    returns-3)
+    shared-slice-read-if3
+    returns-3
+    shared-slice-read-if4
+    returns-4
+    shared-slice-read-result
+    returns-5)

@@ -42,37 +42,45 @@ returns-2 c = ?
 shared-slice-read-if3 : tie.Need-shared-slice-read-if3
 shared-slice-read-if3 c = search needs
 
--- src/numbers.rt:63:27
-shared-slice-read-if4 : tie.Need-shared-slice-read-if4
-shared-slice-read-if4 c = search needs
-
--- src/numbers.rt:64:28
-sub-read-digits-2 : tie.Need-sub-read-digits-2
-sub-read-digits-2 c = search needs
-
--- src/numbers.rt:64:28
-part-read-digits-start-2 : tie.Need-part-read-digits-start-2
-part-read-digits-start-2 c = search needs
-
--- src/numbers.rt:64:28
-part-read-digits-end-2 : tie.Need-part-read-digits-end-2
-part-read-digits-end-2 c = search needs
-
 -- src/numbers.rt:64:9
-read-digits-requires-2 : tie.Need-read-digits-requires-2
-read-digits-requires-2 c κs = search needs
+no-number-requires-2 : tie.Need-no-number-requires-2
+no-number-requires-2 c κs = search needs
 
 -- src/numbers.rt:64:9
 returns-3 : tie.Need-returns-3
 returns-3 c = ?
 
--- src/numbers.rt:66:5
-no-number-requires-2 : tie.Need-no-number-requires-2
-no-number-requires-2 c κs = search needs
+-- src/numbers.rt:66:8
+shared-slice-read-if4 : tie.Need-shared-slice-read-if4
+shared-slice-read-if4 c = search needs
 
--- src/numbers.rt:54:1
+-- src/numbers.rt:67:9
+no-number-requires-3 : tie.Need-no-number-requires-3
+no-number-requires-3 c κs = search needs
+
+-- src/numbers.rt:67:9
 returns-4 : tie.Need-returns-4
 returns-4 c = ?
+
+-- src/numbers.rt:69:17
+sub-read-digits-2 : tie.Need-sub-read-digits-2
+sub-read-digits-2 c = search needs
+
+-- src/numbers.rt:69:17
+part-read-digits-start-2 : tie.Need-part-read-digits-start-2
+part-read-digits-start-2 c = search needs
+
+-- src/numbers.rt:69:17
+part-read-digits-end-2 : tie.Need-part-read-digits-end-2
+part-read-digits-end-2 c = search needs
+
+-- src/numbers.rt:69:5
+read-digits-requires-2 : tie.Need-read-digits-requires-2
+read-digits-requires-2 c κs = search needs
+
+-- src/numbers.rt:54:1
+returns-5 : tie.Need-returns-5
+returns-5 c = ?
 
 pub read-literal-spec : {M : Type 1} → statement M
 read-literal-spec =
@@ -87,11 +95,13 @@ read-literal-spec =
     read-digits-requires
     returns-2
     shared-slice-read-if3
+    no-number-requires-2
+    returns-3
     shared-slice-read-if4
+    no-number-requires-3
+    returns-4
     sub-read-digits-2
     part-read-digits-start-2
     part-read-digits-end-2
     read-digits-requires-2
-    returns-3
-    no-number-requires-2
-    returns-4)
+    returns-5)

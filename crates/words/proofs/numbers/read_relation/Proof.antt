@@ -4,47 +4,47 @@ use Rattle.words.proofs.numbers.read_relation.Tie as tie
 use Rattle.words.proofs.numbers.read_relation.Reads as reads
 use Rattle.words.proofs.numbers.read_relation.Lts as lts
 
--- src/numbers.rt:74:19
+-- src/numbers.rt:89:12
 shared-slice-read-if2 : tie.Need-shared-slice-read-if2
 shared-slice-read-if2 c = search needs
 
--- src/numbers.rt:74:9
+-- src/numbers.rt:90:13
 returns : tie.Need-returns
 returns c = ?
 
--- src/numbers.rt:74:9
+-- src/numbers.rt:92:9
 returns-2 : tie.Need-returns-2
 returns-2 c = ?
 
--- src/numbers.rt:77:9
+-- src/numbers.rt:95:9
 returns-3 : tie.Need-returns-3
 returns-3 c = ?
 
--- src/numbers.rt:79:8
+-- src/numbers.rt:97:8
 shared-slice-read-if4 : tie.Need-shared-slice-read-if4
 shared-slice-read-if4 c = search needs
 
--- src/numbers.rt:80:9
+-- src/numbers.rt:98:9
 returns-4 : tie.Need-returns-4
 returns-4 c = ?
 
--- src/numbers.rt:82:8
+-- src/numbers.rt:100:8
 shared-slice-read-if5 : tie.Need-shared-slice-read-if5
 shared-slice-read-if5 c = search needs
 
--- src/numbers.rt:83:9
+-- src/numbers.rt:101:9
 returns-5 : tie.Need-returns-5
 returns-5 c = ?
 
--- src/numbers.rt:85:8
+-- src/numbers.rt:103:8
 shared-slice-read-if6 : tie.Need-shared-slice-read-if6
 shared-slice-read-if6 c = search needs
 
--- src/numbers.rt:70:1
+-- src/numbers.rt:104:9
 returns-6 : tie.Need-returns-6
 returns-6 c = ?
 
--- src/numbers.rt:70:1
+-- src/numbers.rt:85:1
 returns-7 : tie.Need-returns-7
 returns-7 c = ?
 
