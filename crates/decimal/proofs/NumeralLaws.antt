@@ -3,7 +3,7 @@ use mathlib.Core.Path.{_≡_, refl, sym, ap, _∙_, subst}
 use mathlib.Core.Bool.{Bool, true, false, cond, _&&_, and-false}
 use mathlib.Core.List.{List, [], _∷_, _++_}
 use Prim.Native.Nat.{ℕ, zero, suc, _+_, _-_, _*_, _^_, _≤_, _<_}
-use native.Mathlib.Nat.{pow-suc, pow-le-pow-right}
+use native.Mathlib.Nat.{add-zero, pow-suc, pow-le-pow-right}
 use native.Mathlib.Numerals.{add-one}
 use native.Mathlib.Omega.{arith}
 use borrow.Author.Tests.{le-leb, lt-leb, leb-true}
@@ -81,7 +81,40 @@ value-step v i d h l = rw (add-one) (omega (arith, pow-suc 10 i))
 pub value-small : (v i k : ℕ) → v < 10 ^ i → i ≤ k → v < 10 ^ k
 value-small v i k h l = omega (arith, pow-le-pow-right {n = 10} (omega arith) l)
 
+-- digits after digits that stand for less than 10 ^ k
+digitsValue-less : (w : List ℕ) (acc k : ℕ) → allDigits w ≡ true → acc < 10 ^ k → digitsValue acc w < 10 ^ (k + length w)
+unfolding allDigits digitsValue
+digitsValue-less [] acc k t h = rw add-zero h
+digitsValue-less (b ∷ w) acc k t h =
+    let d : b ≤ 57 = isDigit-to b (and-left (isDigit b) (allDigits w) t) in
+    let e : k + 1 + length w ≡ k + suc (length w) = omega arith in
+    rw e at
+    (digitsValue-less w (acc * 10 + (b - 48)) (k + 1) (and-right (isDigit b) (allDigits w) t) (value-step acc k (b - 48) h (omega arith)))
+
 -- ---- isNumeral
+
+pub numeral-digits : (w : List ℕ) → isNumeral w ≡ true → allDigits w ≡ true
+unfolding isNumeral
+numeral-digits w t = and-right (leb 1 (length w) && leb (length w) maxDigits) (allDigits w) t
+
+pub numeral-some : (w : List ℕ) → isNumeral w ≡ true → 1 ≤ length w
+unfolding isNumeral
+numeral-some w t =
+    leb-true 1 (length w)
+    (and-left (leb 1 (length w)) (leb (length w) maxDigits) (and-left (leb 1 (length w) && leb (length w) maxDigits) (allDigits w) t))
+
+pub numeral-few : (w : List ℕ) → isNumeral w ≡ true → length w ≤ maxDigits
+unfolding isNumeral
+numeral-few w t =
+    leb-true (length w) maxDigits
+    (and-right (leb 1 (length w)) (leb (length w) maxDigits) (and-left (leb 1 (length w) && leb (length w) maxDigits) (allDigits w) t))
+
+-- a numeral stands for a number below 10 ^ 10
+pub numeral-less : (w : List ℕ) → isNumeral w ≡ true → digitsValue 0 w < 10 ^ maxDigits
+numeral-less w t =
+    value-small (digitsValue 0 w) (0 + length w) maxDigits
+    (digitsValue-less w 0 0 (numeral-digits w t) (omega arith))
+    (omega (arith, numeral-few w t))
 
 pub numeral-yes : (w : List ℕ) → 1 ≤ length w → length w ≤ maxDigits → allDigits w ≡ true → isNumeral w ≡ true
 unfolding isNumeral
@@ -113,6 +146,14 @@ read-yes w v t e = rw (t, e)
 
 pub read-no : (w : List ℕ) → isNumeral w ≡ false → _≡_ {A = Numeral} (record { ok = false; value = 0 }) (readNumeral w)
 read-no w t = rw t
+
+-- what is read is below 10 ^ 10, of every word
+pub read-less : (w : List ℕ) → readNumeral w .value < 10 ^ maxDigits
+read-less w = by (isNumeral w) refl
+  where
+    by : (t : Bool) → isNumeral w ≡ t → cond (isNumeral w) (digitsValue 0 w) 0 < 10 ^ maxDigits
+    by true e = rw e (numeral-less w e)
+    by false e = rw e (omega arith)
 
 -- ---- a reader at byte i of w, all before it digits
 

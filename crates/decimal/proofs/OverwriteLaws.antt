@@ -1,12 +1,12 @@
 -- What a write leaves: its length, its three parts, and two writes one after the other. Assumes nothing.
 use mathlib.Core.Path.{_≡_, refl, sym, ap, _∙_}
-use mathlib.Core.List.{List, [], _∷_, _++_, append-assoc, append-nil}
-use Prim.Native.Nat.{ℕ, suc, _+_, _-_, _≤_, _<_}
+use mathlib.Core.List.{List, [], _∷_, _++_, append-assoc}
+use Prim.Native.Nat.{ℕ, suc, _+_, _≤_, _<_}
 use native.Mathlib.Nat.{add-zero}
 use native.Mathlib.Numerals.{add-one}
 use native.Mathlib.Omega.{arith}
 use lib.ListN.{length, take, drop, set, getD, length-append, length-drop, length-set, take-append-drop}
-use lib.Seq.{length-take-le, take-length, take-at, drop-at, drop-drop, drop-cons, drop-append-add, getD-set-same, take-set-le, drop-set-lt, set-split, paste, paste-suc}
+use lib.Seq.{length-take-le, take-length, take-at, drop-at, drop-drop, drop-cons, getD-set-same, take-set-le, drop-set-lt, set-split, paste, paste-suc}
 use Rattle.decimal.specs.Bytes.{overwrite}
 
 -- ---- overwrite

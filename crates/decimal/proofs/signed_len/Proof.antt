@@ -2,9 +2,7 @@
 use mathlib.Core.Path.{refl, ap}
 use native.Mathlib.Omega.{arith}
 use borrow.Author.Needs.{needs}
-use lib.IntN.{natAbs}
 use lib.ListN.{length}
-use Rattle.decimal.specs.Decimal.{signByte}
 use Rattle.decimal.proofs.DecimalLaws.{decimal-length}
 use Rattle.decimal.proofs.PutLaws.{signed-as}
 use Rattle.decimal.proofs.signed_len.Statement.{statement}
