@@ -1,3 +1,4 @@
+use Rattle.words.proofs.NumberLaws.{says-digits}
 use borrow.Author.Needs.{needs}
 use Rattle.words.proofs.numbers.read_digits.Statement.{statement}
 use Rattle.words.proofs.numbers.read_digits.Tie as tie
@@ -5,13 +6,11 @@ use Rattle.words.proofs.numbers.read_digits.Reads as reads
 use Rattle.words.proofs.numbers.read_digits.Lts as lts
 use Rattle.decimal.proofs.read_numeral.Reads as read-numeral-reads
 
--- src/numbers.rt:18:9
 read-numeral-requires : tie.Need-read-numeral-requires
 read-numeral-requires c κs = search needs
 
--- src/numbers.rt:15:1
 returns : tie.Need-returns
-returns c = ?
+returns c = says-digits (c .before .before .args .negative) (c .before .before .args .word .now) (c .read-numeral .result) (c .read-numeral .ensures)
 
 pub read-digits-spec : {M : Type 1} → statement M
 read-digits-spec = tie.close (tie.spec read-numeral-requires returns)

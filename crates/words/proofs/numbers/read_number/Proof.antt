@@ -1,3 +1,4 @@
+use Rattle.words.proofs.NumberLaws.{says-as, number-empty, number-plus, number-minus, number-plain}
 use borrow.Author.Needs.{needs}
 use Rattle.words.proofs.numbers.read_number.Statement.{statement}
 use Rattle.words.proofs.numbers.read_number.Tie as tie
@@ -6,69 +7,53 @@ use Rattle.words.proofs.numbers.read_number.Lts as lts
 use Rattle.words.proofs.numbers.no_number.Reads as no-number-reads
 use Rattle.words.proofs.numbers.read_digits.Reads as read-digits-reads
 
--- src/numbers.rt:42:9
 no-number-requires : tie.Need-no-number-requires
 no-number-requires c κs = search needs
 
--- src/numbers.rt:42:9
 returns : tie.Need-returns
-returns c = ?
+returns c = says-as (number-empty (c .before .before .before .args .word .now) (c .before .if1 .taken)) (c .no-number .ensures)
 
--- src/numbers.rt:44:8
 shared-slice-read-if2 : tie.Need-shared-slice-read-if2
 shared-slice-read-if2 c = search needs
 
--- src/numbers.rt:45:28
 sub-read-digits : tie.Need-sub-read-digits
 sub-read-digits c = search needs
 
--- src/numbers.rt:45:28
 part-read-digits-start : tie.Need-part-read-digits-start
 part-read-digits-start c = search needs
 
--- src/numbers.rt:45:28
 part-read-digits-end : tie.Need-part-read-digits-end
 part-read-digits-end c = search needs
 
--- src/numbers.rt:45:9
 read-digits-requires : tie.Need-read-digits-requires
 read-digits-requires c κs = search needs
 
--- src/numbers.rt:45:9
 returns-2 : tie.Need-returns-2
-returns-2 c = ?
+returns-2 c = says-as (number-plus (c .before .before .before .before .before .before .args .word .now) (c .before .before .before .before .if1 .left) (c .before .before .if2 .taken)) (c .read-digits .ensures)
 
--- src/numbers.rt:47:8
 shared-slice-read-if3 : tie.Need-shared-slice-read-if3
 shared-slice-read-if3 c = search needs
 
--- src/numbers.rt:48:28
 sub-read-digits-2 : tie.Need-sub-read-digits-2
 sub-read-digits-2 c = search needs
 
--- src/numbers.rt:48:28
 part-read-digits-start-2 : tie.Need-part-read-digits-start-2
 part-read-digits-start-2 c = search needs
 
--- src/numbers.rt:48:28
 part-read-digits-end-2 : tie.Need-part-read-digits-end-2
 part-read-digits-end-2 c = search needs
 
--- src/numbers.rt:48:9
 read-digits-requires-2 : tie.Need-read-digits-requires-2
 read-digits-requires-2 c κs = search needs
 
--- src/numbers.rt:48:9
 returns-3 : tie.Need-returns-3
-returns-3 c = ?
+returns-3 c = says-as (number-minus (c .before .before .before .before .before .before .before .before .args .word .now) (c .before .before .before .before .before .before .if1 .left) (c .before .before .before .before .if2 .left) (c .before .before .if3 .taken)) (c .read-digits2 .ensures)
 
--- src/numbers.rt:50:5
 read-digits-requires-3 : tie.Need-read-digits-requires-3
 read-digits-requires-3 c κs = search needs
 
--- src/numbers.rt:38:1
 returns-4 : tie.Need-returns-4
-returns-4 c = ?
+returns-4 c = says-as (number-plain (c .before .before .before .before .before .before .before .args .word .now) (c .before .before .before .before .before .if1 .left) (c .before .before .before .if2 .left) (c .before .if3 .left)) (c .read-digits3 .ensures)
 
 pub read-number-spec : {M : Type 1} → statement M
 read-number-spec =
