@@ -1,4 +1,4 @@
 // Reading instance text into lent tables.
-pub mod statements;
-pub mod tables;
-pub mod texts;
+pub mod cells; // cells.rt: what is stored in the tables
+pub mod terms; // terms.rt: a run of terms
+pub mod statements; // statements.rt: one statement

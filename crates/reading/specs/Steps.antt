@@ -1,0 +1,144 @@
+-- What the reader's parts answer: a term, a run of terms, a statement.
+use mathlib.Core.Path.{_≡_}
+use mathlib.Core.Bool.{Bool, true, false, _||_}
+use mathlib.Core.List.{List, [], _∷_}
+use mathlib.Core.Option.{Option, none, some}
+use Prim.Native.Nat.{ℕ, _^_, _≤_, _<_}
+use lib.Dec.{ltb}
+use lib.IntN.{ℤ, natAbs}
+use lib.ListN.{length, drop}
+use Rattle.words.specs.declared.Place.{Place}
+use Rattle.words.specs.declared.Place.the-variants.{Inside}
+use Rattle.words.specs.declared.Token.{Token}
+use Rattle.words.specs.Tokens.{Mark, word, stop, marksAt}
+use Rattle.words.specs.Numbers.{number, literal, relation}
+use Rattle.words.specs.Answers.{NextToken, part, marksFrom}
+use Rattle.instance.specs.Limits.{maxBound, termRoom}
+use Rattle.instance.specs.Terms.{Term, highest}
+use Rattle.instance.specs.Rows.{Entry}
+use Rattle.reading.specs.declared.terms.Step.{Step}
+use Rattle.reading.specs.declared.terms.Run.{Run}
+use Rattle.reading.specs.declared.statements.Bound.{Bound}
+use Rattle.reading.specs.declared.statements.Statement.{Statement}
+use Rattle.reading.specs.Grammar.{Words, addTerm, objective, row, statement}
+use Rattle.reading.specs.Reading.{any, isWide, isUnnamed}
+use Rattle.reading.specs.Stored.{value, stored}
+
+-- The words of the first statement, whether a `;` ends it, and the marks after that.
+unfoldable pub firstWords : List Mark → Words
+firstWords [] = []
+firstWords (stop ∷ ms) = []
+firstWords (word w ∷ ms) = w ∷ firstWords ms
+
+unfoldable pub isClosed : List Mark → Bool
+isClosed [] = false
+isClosed (stop ∷ ms) = true
+isClosed (word w ∷ ms) = isClosed ms
+
+unfoldable pub restAfter : List Mark → List Mark
+restAfter [] = []
+restAfter (stop ∷ ms) = ms
+restAfter (word w ∷ ms) = restAfter ms
+
+-- Terms in front of an objective's or a row's.
+unfoldable pub addTerms : List Term → Option Entry → Option Entry
+addTerms [] e = e
+addTerms (t ∷ ts) e = addTerm (some t) (addTerms ts e)
+
+-- No words that go on so are an objective's terms or a row.
+pub record Broken (ms : List Mark) : Type 0 where
+  pub objective-none : objective (firstWords ms) ≡ none
+  pub row-none : row (firstWords ms) ≡ none
+  pub more : 1 ≤ length ms
+
+-- From ms the terms lead to ms′ in the same statement.
+pub record Reached (ts : List Term) (ms ms′ : List Mark) : Type 0 where
+  pub objective-as : objective (firstWords ms) ≡ addTerms ts (objective (firstWords ms′))
+  pub row-as : row (firstWords ms) ≡ addTerms ts (row (firstWords ms′))
+  pub closed-as : isClosed ms ≡ isClosed ms′
+  pub rest-as : restAfter ms ≡ restAfter ms′
+  pub more : 1 ≤ length ms′ → 1 ≤ length ms
+
+-- No term begins at the token t: it is a `;`, a relation, or there is none.
+pub record IsStop (text : List ℕ) (first : ℕ) (t : Token) : Type 0 where
+  pub next : NextToken text first Inside t
+  pub relation-some : t .kind ≡ 2 → relation (part text (t .start) (t .end)) ≡ 0 → ⊥
+
+-- A coefficient word and a literal word stand next.
+pub record IsTerm (text : List ℕ) (first : ℕ) (s : Step) : Type 0 where
+  pub coef-word : List ℕ
+  pub lit-word : List ℕ
+  pub marks : marksAt Inside (drop first text) ≡ word coef-word ∷ (word lit-word ∷ marksAt Inside (drop (s .next) text))
+  pub plain : relation coef-word ≡ 0
+  pub coef-is : number coef-word ≡ some (value (s .coef))
+  pub lit-is : literal lit-word ≡ some (value (s .lit))
+  pub coef-small : s .coef .size < 10 ^ 10
+  pub lit-small : s .lit .size < 10 ^ 10
+  pub low : first < s .next
+  pub high : s .next ≤ length text
+
+-- What stands where a term could begin: a term (0), none (1), or what breaks the grammar (2).
+pub record StepIs (text : List ℕ) (first : ℕ) (s : Step) : Type 0 where
+  pub kind-most : s .kind ≤ 2
+  pub term : s .kind ≡ 0 → IsTerm text first s
+  pub stop : s .kind ≡ 1 → IsStop text first (s .stop)
+  pub broken : s .kind ≡ 2 → Broken (marksAt Inside (drop first text))
+
+-- A run of terms from `first` on, stored from place base on.
+pub record RunIs (text : List ℕ) (first base : ℕ) (before after : List ℤ) (r : Run) : Type 0 where
+  pub terms : List Term
+  pub at : ℕ
+  pub low : first ≤ at
+  pub reached : Reached terms (marksAt Inside (drop first text)) (marksAt Inside (drop at text))
+  pub stops : IsStop text at (r .stop)
+  pub count : r .count ≡ length terms
+  pub wide : r .wide ≡ any isWide terms
+  pub unnamed : r .unnamed ≡ any isUnnamed terms
+  pub top : r .top ≡ highest terms
+  pub left : after ≡ stored before base terms
+
+-- Beyond the room all is as found.
+abbrev pub Kept : List ℤ → List ℤ → Type 0
+Kept before after = drop termRoom after ≡ drop termRoom before
+
+pub record RunEnd (text : List ℕ) (first base : ℕ) (before after : List ℤ) (r : Run) : Type 0 where
+  pub kept : Kept before after
+  pub yes-run : r .ok ≡ true → RunIs text first base before after r
+  pub no-run : r .ok ≡ false → Broken (marksAt Inside (drop first text))
+
+-- A bound and a `;` stand next, or not.
+pub record BoundIs (text : List ℕ) (first : ℕ) (b : Bound) : Type 0 where
+  pub bound-word : List ℕ
+  pub marks : marksAt Inside (drop first text) ≡ word bound-word ∷ (stop ∷ marksAt Inside (drop (b .next) text))
+  pub says : number bound-word ≡ some (value (b .value))
+  pub small : b .value .size < 10 ^ 10
+  pub low : first < b .next
+  pub high : b .next ≤ length text
+
+-- The entry that a closed statement says, with what is known of it.
+pub record EntryRead (text : List ℕ) (ms : List Mark) (base : ℕ) (before after : List ℤ) (s : Statement) : Type 0 where
+  pub entry : Entry
+  pub parsed : statement (firstWords ms) ≡ some entry
+  pub closed : isClosed ms ≡ true
+  pub rest : restAfter ms ≡ marksAt Inside (drop (s .next) text)
+  pub kind : entry .kind ≡ s .kind
+  pub count : s .count ≡ length (entry .terms)
+  pub bound : entry .bound ≡ s .bound
+  pub wide : s .wide ≡ any isWide (entry .terms) || ltb maxBound (natAbs (entry .bound))
+  pub unnamed : s .unnamed ≡ any isUnnamed (entry .terms)
+  pub top : s .top ≡ highest (entry .terms)
+  pub left : after ≡ stored before base (entry .terms)
+  pub low : 1 ≤ s .next
+  pub high : s .next ≤ length text
+
+-- A statement that no words end so that it says an entry.
+pub record Unread (ms : List Mark) : Type 0 where
+  pub more : 1 ≤ length ms
+  pub none-read : isClosed ms ≡ true → statement (firstWords ms) ≡ none
+
+-- What the marks ms of a part of a text begin with: nothing (0), an entry (its kind), or what breaks the grammar (5).
+pub record StatementIs (text : List ℕ) (ms : List Mark) (base : ℕ) (before after : List ℤ) (s : Statement) : Type 0 where
+  pub kept : Kept before after
+  pub nothing : s .kind ≡ 0 → ms ≡ []
+  pub broken : s .kind ≡ 5 → Unread ms
+  pub entry-read : (s .kind ≡ 0 → ⊥) → (s .kind ≡ 5 → ⊥) → EntryRead text ms base before after s
