@@ -1,2 +1,4 @@
 -- Laws of reading.
 pub mod CellLaws
+pub mod ParseLaws
+pub mod StepLaws

@@ -10,6 +10,7 @@ use lib.ListN.{length, drop}
 use Rattle.words.specs.declared.Place.{Place}
 use Rattle.words.specs.declared.Place.the-variants.{Inside}
 use Rattle.words.specs.declared.Token.{Token}
+use Rattle.words.specs.declared.numbers.Number.{Number}
 use Rattle.words.specs.Tokens.{Mark, word, stop, marksAt}
 use Rattle.words.specs.Numbers.{number, literal, relation}
 use Rattle.words.specs.Answers.{NextToken, part, marksFrom}
@@ -76,6 +77,19 @@ pub record IsTerm (text : List ℕ) (first : ℕ) (s : Step) : Type 0 where
   pub lit-small : s .lit .size < 10 ^ 10
   pub low : first < s .next
   pub high : s .next ≤ length text
+
+-- After a coefficient's word: a literal's word (0), or what makes no term of them (2).
+pub record SecondIs (text : List ℕ) (first : ℕ) (coef : Number) (s : Step) : Type 0 where
+  pub kind-most : s .kind ≤ 2
+  pub not-one : s .kind ≡ 1 → ⊥
+  pub coef-kept : s .coef ≡ coef
+  pub lit-word : List ℕ
+  pub lit-small : s .lit .size < 10 ^ 10
+  pub low : s .kind ≡ 0 → first < s .next
+  pub high : s .kind ≡ 0 → s .next ≤ length text
+  pub lit-is : s .kind ≡ 0 → literal lit-word ≡ some (value (s .lit))
+  pub marks : s .kind ≡ 0 → marksAt Inside (drop first text) ≡ word lit-word ∷ marksAt Inside (drop (s .next) text)
+  pub broken : s .kind ≡ 2 → (c : List ℕ) → relation c ≡ 0 → Broken (word c ∷ marksAt Inside (drop first text))
 
 -- What stands where a term could begin: a term (0), none (1), or what breaks the grammar (2).
 pub record StepIs (text : List ℕ) (first : ℕ) (s : Step) : Type 0 where

@@ -6,7 +6,7 @@ use words::{Place, Token, next_token};
 ghost use Prim.Native.Nat.{_^_, _≤_, _<_};
 ghost use lib.ListN.{length};
 ghost use Rattle.instance.specs.Limits.{maxTerms, termRoom};
-ghost use Rattle.reading.specs.Steps.{StepIs, RunEnd};
+ghost use Rattle.reading.specs.Steps.{SecondIs, StepIs, RunEnd};
 
 // What stands where a term could begin: a term, none, or a word that breaks the grammar.
 pub struct Step {
@@ -24,7 +24,10 @@ impl Step {
 }
 
 // The literal after a coefficient, which ends at `from`; c is the coefficient's token.
-fn read_second(text: &[u8], from: usize, coef: Number, c: Token) -> Step {
+fn read_second(text: &[u8], from: usize, coef: Number, c: Token) -> Step
+    requires { ⌜ from ≤ length (now text) ⌝ }
+    ensures { λ r. ⌜ SecondIs (now (text .entry)) from coef r ⌝ }
+{
     let l = next_token(text, from, Place::Inside);
     let none = no_number();
     let kind = l.kind;

@@ -1,3 +1,11 @@
+use mathlib.Core.Path.{_≡_, refl, sym, ap, _∙_}
+use mathlib.Core.List.{List, []}
+use Prim.Native.Nat.{ℕ, _≤_, _<_}
+use native.Mathlib.Omega.{arith}
+use borrow.Author.Tests.{not-true, not-false}
+use Rattle.words.specs.Answers.{part}
+use Rattle.words.proofs.TokenLaws.{token-word, says-none, says-some}
+use Rattle.reading.proofs.StepLaws.{no-second, bad-second}
 use borrow.Author.Needs.{needs}
 use Rattle.reading.proofs.terms.read_second.Statement.{statement}
 use Rattle.reading.proofs.terms.read_second.Tie as tie
@@ -7,41 +15,32 @@ use Rattle.words.proofs.next_token.Reads as next-token-reads
 use Rattle.words.proofs.numbers.no_number.Reads as no-number-reads
 use Rattle.words.proofs.numbers.read_literal.Reads as read-literal-reads
 
--- src/terms.rt:28:9
 next-token-requires : tie.Need-next-token-requires
-next-token-requires c κs = ?
+next-token-requires c κs = search needs
 
--- src/terms.rt:29:9
 no-number-requires : tie.Need-no-number-requires
 no-number-requires c κs = search needs
 
--- src/terms.rt:32:9
 returns : tie.Need-returns
-returns c = search needs
+returns c = record { kind-most = omega arith; not-one = λ e. absurd (omega arith); coef-kept = refl; lit-word = []; lit-small = c .before .no-number .ensures .small; low = λ e. absurd (omega arith); high = λ e. absurd (omega arith); lit-is = λ e. absurd (omega arith); marks = λ e. absurd (omega arith); broken = λ _ w r. no-second (c .before .before .next-token .ensures) (c .if1 .taken) w }
 
--- src/terms.rt:42:28
 sub-read-literal : tie.Need-sub-read-literal
 sub-read-literal c = search needs
 
--- src/terms.rt:42:28
 part-read-literal-start : tie.Need-part-read-literal-start
 part-read-literal-start c = search needs
 
--- src/terms.rt:42:28
 part-read-literal-end : tie.Need-part-read-literal-end
 part-read-literal-end c = search needs
 
--- src/terms.rt:42:9
 read-literal-requires : tie.Need-read-literal-requires
 read-literal-requires c κs = search needs
 
--- src/terms.rt:44:9
 returns-2 : tie.Need-returns-2
-returns-2 c = search needs
+returns-2 c = record { kind-most = omega arith; not-one = λ e. absurd (omega arith); coef-kept = refl; lit-word = []; lit-small = (c .before .before .read-literal .ensures .small); low = λ e. absurd (omega arith); high = λ e. absurd (omega arith); lit-is = λ e. absurd (omega arith); marks = λ e. absurd (omega arith); broken = λ _ w r. bad-second (c .before .before .before .before .before .before .next-token .ensures) (c .before .before .before .before .if1 .left) (says-none (c .before .before .read-literal .ensures) (not-true (c .before .before .read-literal .result .ok) (c .if2 .taken))) w r }
 
--- src/terms.rt:27:1
 returns-3 : tie.Need-returns-3
-returns-3 c = search needs
+returns-3 c = record { kind-most = omega arith; not-one = λ e. absurd (omega arith); coef-kept = refl; lit-word = (part (c .before .before .before .before .before .before .before .before .args .text .now) ((c .before .before .before .before .before .before .next-token .result) .start) ((c .before .before .before .before .before .before .next-token .result) .end)); lit-small = (c .before .before .read-literal .ensures .small); low = λ _. omega (arith, (c .before .before .before .before .before .before .next-token .ensures) .low, (c .before .before .before .before .before .before .next-token .ensures) .used (omega arith)); high = λ _. (c .before .before .before .before .before .before .next-token .ensures) .high; lit-is = λ _. says-some (c .before .before .read-literal .ensures) (not-false (c .before .before .read-literal .result .ok) (c .if2 .left)); marks = λ _. token-word (c .before .before .before .before .before .before .next-token .ensures) (c .before .before .before .before .if1 .left); broken = λ e. absurd (omega arith) }
 
 pub read-second-spec : {M : Type 1} → statement M
 read-second-spec =

@@ -1,0 +1,30 @@
+-- What a token tells of the statement that it stands in. Assumes nothing.
+use mathlib.Core.Path.{_≡_, refl, sym, ap, _∙_, subst}
+use mathlib.Core.List.{List, [], _∷_}
+use mathlib.Core.Option.{Option, none, some}
+use Prim.Native.Nat.{ℕ, _≤_, _<_}
+use native.Mathlib.Omega.{arith}
+use lib.ListN.{length, drop}
+use Rattle.words.specs.declared.Place.the-variants.{Inside}
+use Rattle.words.specs.declared.Token.{Token}
+use Rattle.words.specs.Tokens.{Mark, word, stop, marksAt}
+use Rattle.words.specs.Numbers.{number, literal, relation}
+use Rattle.words.specs.Answers.{NextToken, part}
+use Rattle.words.proofs.TokenLaws.{token-none, token-stop, token-word, token-other}
+use Rattle.reading.specs.Steps.{Broken}
+use Rattle.reading.proofs.ParseLaws.{broken-one, broken-stop, broken-coef, broken-lit}
+
+module _ {text : List ℕ} {first : ℕ} {t : Token} (n : NextToken text first Inside t) where
+  -- no word follows a coefficient
+  pub no-second : (t .kind ≡ 2 → ⊥) → (c : List ℕ) → Broken (word c ∷ marksAt Inside (drop first text))
+  no-second h c = token-other n h
+      (λ e. subst (λ (ms : List Mark). Broken (word c ∷ ms)) (sym (token-none n e)) (broken-one c))
+      (λ e. subst (λ (ms : List Mark). Broken (word c ∷ ms)) (sym (token-stop n e)) (broken-stop c (marksAt Inside (drop (t .end) text))))
+
+  -- a word that is no literal follows
+  pub bad-second : t .kind ≡ 2 → literal (part text (t .start) (t .end)) ≡ none → (c : List ℕ) → relation c ≡ 0 → Broken (word c ∷ marksAt Inside (drop first text))
+  bad-second h e c r = subst (λ (ms : List Mark). Broken (word c ∷ ms)) (sym (token-word n h)) (broken-lit c (part text (t .start) (t .end)) (marksAt Inside (drop (t .end) text)) r e)
+
+  -- a word that is neither a relation nor a number
+  pub bad-first : t .kind ≡ 2 → relation (part text (t .start) (t .end)) ≡ 0 → number (part text (t .start) (t .end)) ≡ none → Broken (marksAt Inside (drop first text))
+  bad-first h r e = subst Broken (sym (token-word n h)) (broken-coef (part text (t .start) (t .end)) (marksAt Inside (drop (t .end) text)) r e)
