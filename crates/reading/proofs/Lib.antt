@@ -2,3 +2,4 @@
 pub mod CellLaws
 pub mod ParseLaws
 pub mod StepLaws
+pub mod RunLaws
