@@ -9,4 +9,5 @@ pub mod SumLaws
 pub mod TableLaws
 pub mod NumberLaws
 pub mod InstanceLaws
+pub mod MeaningLaws
 pub mod AnswerLaws
