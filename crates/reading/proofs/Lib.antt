@@ -3,3 +3,5 @@ pub mod CellLaws
 pub mod ParseLaws
 pub mod StepLaws
 pub mod RunLaws
+pub mod StatementLaws
+pub mod ClosingLaws

@@ -24,7 +24,7 @@ use Rattle.reading.proofs.ParseLaws.{reached-none, reached-term, reache
 
 -- ---- any
 
-or-none : (a : Bool) → a ≡ a || false
+pub or-none : (a : Bool) → a ≡ a || false
 or-none true = refl
 or-none false = refl
 

@@ -10,7 +10,7 @@ use Rattle.words.specs.declared.Token.{Token}
 use Rattle.words.specs.Tokens.{Mark, word, stop, marksAt}
 use Rattle.words.specs.Numbers.{number, literal, relation}
 use Rattle.words.specs.Answers.{NextToken, part}
-use Rattle.words.proofs.TokenLaws.{token-none, token-stop, token-word, token-other}
+use Rattle.words.proofs.TokenLaws.{token-none, token-stop, token-word, token-cases}
 use Rattle.words.specs.declared.numbers.Number.{Number}
 use Rattle.reading.specs.declared.terms.Step.{Step}
 use Rattle.reading.specs.Stored.{value}
@@ -20,9 +20,10 @@ use Rattle.reading.proofs.ParseLaws.{broken-one, broken-stop, broken-co
 module _ {text : List ℕ} {first : ℕ} {t : Token} (n : NextToken text first Inside t) where
   -- no word follows a coefficient
   pub no-second : (t .kind ≡ 2 → ⊥) → (c : List ℕ) → Broken (word c ∷ marksAt Inside (drop first text))
-  no-second h c = token-other n h
+  no-second h c = token-cases n
       (λ e. subst (λ (ms : List Mark). Broken (word c ∷ ms)) (sym (token-none n e)) (broken-one c))
       (λ e. subst (λ (ms : List Mark). Broken (word c ∷ ms)) (sym (token-stop n e)) (broken-stop c (marksAt Inside (drop (t .end) text))))
+      (λ e. absurd (h e))
 
   -- a word that is no literal follows
   pub bad-second : t .kind ≡ 2 → literal (part text (t .start) (t .end)) ≡ none → (c : List ℕ) → relation c ≡ 0 → Broken (word c ∷ marksAt Inside (drop first text))

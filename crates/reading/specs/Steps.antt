@@ -120,24 +120,32 @@ pub record RunEnd (text : List ℕ) (first base : ℕ) (before after : List ℤ)
   pub yes-run : r .ok ≡ true → RunIs text first base before after r
   pub no-run : r .ok ≡ false → Broken (marksAt Inside (drop first text))
 
--- A bound and a `;` stand next, or not.
-pub record BoundIs (text : List ℕ) (first : ℕ) (b : Bound) : Type 0 where
+-- A bound's word and a `;` stand next.
+pub record IsBound (text : List ℕ) (first : ℕ) (b : Bound) : Type 0 where
   pub bound-word : List ℕ
   pub marks : marksAt Inside (drop first text) ≡ word bound-word ∷ (stop ∷ marksAt Inside (drop (b .next) text))
   pub says : number bound-word ≡ some (value (b .value))
   pub small : b .value .size < 10 ^ 10
-  pub low : first < b .next
+  pub low : 1 ≤ b .next
   pub high : b .next ≤ length text
 
--- The entry that a closed statement says, with what is known of it.
-pub record EntryRead (text : List ℕ) (ms : List Mark) (base : ℕ) (before after : List ℤ) (s : Statement) : Type 0 where
+-- After a relation the marks are no bound and `;`: no row that a `;` ends goes on so.
+abbrev pub NoBound : List Mark → Type 0
+NoBound ms = isClosed ms ≡ true → (r : List ℕ) → (relation r ≡ 0 → ⊥) → row (r ∷ firstWords ms) ≡ none
+
+pub record BoundIs (text : List ℕ) (first : ℕ) (b : Bound) : Type 0 where
+  pub yes-bound : b .ok ≡ true → IsBound text first b
+  pub no-bound : b .ok ≡ false → NoBound (marksAt Inside (drop first text))
+
+-- The entry that the words of a closed statement say, and what is known of it. `parse` reads the words.
+pub record EntryRead (parse : Words → Option Entry) (text : List ℕ) (ms : List Mark) (base : ℕ) (before after : List ℤ) (s : Statement) : Type 0 where
   pub entry : Entry
-  pub parsed : statement (firstWords ms) ≡ some entry
+  pub parsed : parse (firstWords ms) ≡ some entry
   pub closed : isClosed ms ≡ true
   pub rest : restAfter ms ≡ marksAt Inside (drop (s .next) text)
-  pub kind : entry .kind ≡ s .kind
+  pub kind : s .kind ≡ entry .kind
   pub count : s .count ≡ length (entry .terms)
-  pub bound : entry .bound ≡ s .bound
+  pub bound : s .bound ≡ entry .bound
   pub wide : s .wide ≡ any isWide (entry .terms) || ltb maxBound (natAbs (entry .bound))
   pub unnamed : s .unnamed ≡ any isUnnamed (entry .terms)
   pub top : s .top ≡ highest (entry .terms)
@@ -145,14 +153,16 @@ pub record EntryRead (text : List ℕ) (ms : List Mark) (base : ℕ) (before aft
   pub low : 1 ≤ s .next
   pub high : s .next ≤ length text
 
--- A statement that no words end so that it says an entry.
-pub record Unread (ms : List Mark) : Type 0 where
-  pub more : 1 ≤ length ms
-  pub none-read : isClosed ms ≡ true → statement (firstWords ms) ≡ none
+-- What the words of a statement say: an entry (its kind), or what breaks the grammar if a `;` ends it (5).
+pub record Closing (parse : Words → Option Entry) (text : List ℕ) (ms : List Mark) (base : ℕ) (before after : List ℤ) (s : Statement) : Type 0 where
+  pub kept : Kept before after
+  pub kind-some : s .kind ≡ 0 → ⊥
+  pub broken : s .kind ≡ 5 → isClosed ms ≡ true → parse (firstWords ms) ≡ none
+  pub entry-read : (s .kind ≡ 5 → ⊥) → EntryRead parse text ms base before after s
 
--- What the marks ms of a part of a text begin with: nothing (0), an entry (its kind), or what breaks the grammar (5).
+-- What the marks ms of a part of a text begin with: nothing (0), or a statement.
 pub record StatementIs (text : List ℕ) (ms : List Mark) (base : ℕ) (before after : List ℤ) (s : Statement) : Type 0 where
   pub kept : Kept before after
   pub nothing : s .kind ≡ 0 → ms ≡ []
-  pub broken : s .kind ≡ 5 → Unread ms
-  pub entry-read : (s .kind ≡ 0 → ⊥) → (s .kind ≡ 5 → ⊥) → EntryRead text ms base before after s
+  pub more : (s .kind ≡ 0 → ⊥) → 1 ≤ length ms
+  pub closing : (s .kind ≡ 0 → ⊥) → Closing statement text ms base before after s

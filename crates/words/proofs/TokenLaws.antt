@@ -3,9 +3,8 @@ use mathlib.Core.Path.{_≡_, refl, sym, ap, _∙_}
 use mathlib.Core.Bool.{Bool, true, false, cond}
 use mathlib.Core.List.{List, [], _∷_}
 use mathlib.Core.Option.{Option, none, some}
-use Prim.Native.Nat.{ℕ, _≤_}
+use Prim.Native.Nat.{ℕ, zero, suc, _≤_}
 use native.Mathlib.Omega.{arith}
-use native.Mathlib.Decide.{decLt}
 use lib.Dec.{eqb}
 use lib.IntN.{ℤ}
 use lib.ListN.{drop}
@@ -37,20 +36,15 @@ module _ {text : List ℕ} {first : ℕ} {p : Place} {t : Token} (n : NextToken 
   pub token-word : t .kind ≡ 2 → marksAt p (drop first text) ≡ word (part text (t .start) (t .end)) ∷ marksAt Inside (drop (t .end) text)
   token-word h = picked false false (ne-eqb (t .kind) 0 (λ z. omega arith)) (ne-eqb (t .kind) 1 (λ z. omega arith))
 
-  -- a token that is no word is none or a `;`
-  pub token-other : {A : Type 0} → (t .kind ≡ 2 → ⊥) → (t .kind ≡ 0 → A) → (t .kind ≡ 1 → A) → A
-  token-other {A} h f g = by (decLt (t .kind) 1)
+  -- a token is none, a `;` or a word
+  pub token-cases : {A : Type 0} → (t .kind ≡ 0 → A) → (t .kind ≡ 1 → A) → (t .kind ≡ 2 → A) → A
+  token-cases {A} f g h = pick (t .kind) (n .kind) f g h
     where
-      one : 1 ≤ t .kind → t .kind ≡ 1
-      one l = by2 (decLt (t .kind) 2)
-        where
-          by2 : Dec (Prim.Native.Nat._<_ (t .kind) 2) → t .kind ≡ 1
-          by2 (yes m) = omega arith
-          by2 (no m) = absurd (h (omega (arith, n .kind)))
-
-      by : Dec (Prim.Native.Nat._<_ (t .kind) 1) → A
-      by (yes m) = f (omega arith)
-      by (no m) = g (one (omega arith))
+      pick : (k : ℕ) → k ≤ 2 → (k ≡ 0 → A) → (k ≡ 1 → A) → (k ≡ 2 → A) → A
+      pick zero l f g h = f refl
+      pick (suc zero) l f g h = g refl
+      pick (suc (suc zero)) l f g h = h refl
+      pick (suc (suc (suc k))) l f g h = absurd (omega arith)
 
 -- ---- Says
 

@@ -46,6 +46,7 @@ pub record NextToken (text : List ℕ) (first : ℕ) (p : Place) (t : Token) : T
   pub high : t .end ≤ length text
   pub kind : t .kind ≤ 2
   pub used : 1 ≤ t .kind → t .start < t .end
+  pub again : marksAt p (drop first text) ≡ marksAt Inside (drop (t .start) text)
   pub marks : marksAt p (drop first text) ≡ marksFrom text t
 
 -- The number that a word says, if it says one.
