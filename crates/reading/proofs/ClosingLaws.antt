@@ -62,6 +62,10 @@ module _ {text : List ℕ} {first base : ℕ} {before after : List ℤ} {r : Run
     stops : NextToken text (run .at) Inside (r .stop)
     stops = run .stops .next
 
+    -- the token where the run stops lies in the text
+    pub run-stops : (r .stop .start ≤ r .stop .end) × (r .stop .end ≤ length text)
+    run-stops = (stops .order, stops .high)
+
     -- ---- an objective
 
     objective-none-of : (r .stop .kind ≡ 1 → ⊥) → isClosed (marksAt Inside (drop first text)) ≡ true → objective (firstWords (marksAt Inside (drop first text))) ≡ none
@@ -174,3 +178,82 @@ module _ {text : List ℕ} {first base : ℕ} {before after : List ℤ} {r : Run
         where
           all : marksAt Inside (drop (run .at) text) ≡ word (part text (r .stop .start) (r .stop .end)) ∷ (word (q .bound-word) ∷ (stop ∷ marksAt Inside (drop (b .next) text)))
           all = marks-here ∙ ap (λ (m : List Mark). word (part text (r .stop .start) (r .stop .end)) ∷ m) (q .marks)
+
+-- ---- a whole statement
+
+statement-min : (w : List ℕ) (ws : Words) → isMin w ≡ true → statement (w ∷ ws) ≡ objective ws
+statement-min w ws h = ap (λ (b : Bool). cond b (objective ws) (row (w ∷ ws))) h
+
+statement-row : (w : List ℕ) (ws : Words) → isMin w ≡ false → statement (w ∷ ws) ≡ row (w ∷ ws)
+statement-row w ws h = ap (λ (b : Bool). cond b (objective ws) (row (w ∷ ws))) h
+
+-- the words of a statement, read in another way or from marks that are the same
+closing-as : {parse parse′ : Words → Option Entry} {text : List ℕ} {ms ms′ : List Mark} {base : ℕ} {before after : List ℤ} {s : Statement}
+  → parse′ (firstWords ms′) ≡ parse (firstWords ms) → isClosed ms′ ≡ isClosed ms → restAfter ms′ ≡ restAfter ms → Closing parse text ms base before after s → Closing parse′ text ms′ base before after s
+closing-as p q r c = record {
+  kept = c .kept;
+  kind-some = c .kind-some;
+  broken = λ k h. p ∙ c .broken k (sym q ∙ h);
+  entry-read = λ k. record {
+    entry = c .entry-read k .entry;
+    parsed = p ∙ c .entry-read k .parsed;
+    closed = q ∙ c .entry-read k .closed;
+    rest = r ∙ c .entry-read k .rest;
+    kind = c .entry-read k .kind;
+    count = c .entry-read k .count;
+    bound = c .entry-read k .bound;
+    wide = c .entry-read k .wide;
+    unnamed = c .entry-read k .unnamed;
+    top = c .entry-read k .top;
+    left = c .entry-read k .left;
+    low = c .entry-read k .low;
+    high = c .entry-read k .high;
+  };
+}
+
+module _ {text : List ℕ} {p : Place} {t : Token} (n : NextToken text 0 p t) {base : ℕ} {before : List ℤ} {s : Statement} where
+  -- nothing is left
+  pub statement-none : t .kind ≡ 0 → s .kind ≡ 0 → StatementIs text (marksAt p text) base before before s
+  statement-none k z = record {
+    kept = refl;
+    nothing = λ _. token-none n k;
+    more = λ h. absurd (h z);
+    closing = λ h. absurd (h z);
+  }
+
+  -- a `;` at once
+  pub statement-empty : t .kind ≡ 1 → s .kind ≡ 5 → StatementIs text (marksAt p text) base before before s
+  unfolding firstWords
+  statement-empty k z = record {
+    kept = refl;
+    nothing = λ y. absurd (omega arith);
+    more = λ _. omega (arith, ap length (token-stop n k));
+    closing = λ _. record {
+      kept = refl;
+      kind-some = λ y. omega arith;
+      broken = λ _ _. ap (λ (m : List Mark). statement (firstWords m)) (token-stop n k);
+      entry-read = λ h. absurd (h z);
+    };
+  }
+
+  module _ (k : t .kind ≡ 2) {after : List ℤ} where
+    closed : Closing statement text (marksAt p text) base before after s → StatementIs text (marksAt p text) base before after s
+    closed c = record {
+      kept = c .kept;
+      nothing = λ z. absurd (c .kind-some z);
+      more = λ _. omega (arith, ap length (token-word n k));
+      closing = λ _. c;
+    }
+
+    pub statement-objective : isMin (part text (t .start) (t .end)) ≡ true → Closing objective text (marksAt Inside (drop (t .end) text)) base before after s → StatementIs text (marksAt p text) base before after s
+    unfolding firstWords isClosed restAfter
+    statement-objective h c = closed (closing-as
+        (ap (λ (m : List Mark). statement (firstWords m)) (token-word n k) ∙ statement-min (part text (t .start) (t .end)) (firstWords (marksAt Inside (drop (t .end) text))) h)
+        (ap isClosed (token-word n k)) (ap restAfter (token-word n k)) c)
+
+    pub statement-other : isMin (part text (t .start) (t .end)) ≡ false → Closing row text (marksAt Inside (drop (t .start) text)) base before after s → StatementIs text (marksAt p text) base before after s
+    unfolding firstWords
+    statement-other h c = closed (closing-as
+        (ap (λ (m : List Mark). statement (firstWords m)) (token-word n k) ∙ statement-row (part text (t .start) (t .end)) (firstWords (marksAt Inside (drop (t .end) text))) h
+            ∙ sym (ap (λ (m : List Mark). row (firstWords m)) (token-word n k)) ∙ ap (λ (m : List Mark). row (firstWords m)) (n .again))
+        (ap isClosed (n .again)) (ap restAfter (n .again)) c)

@@ -46,6 +46,10 @@ module _ {text : List ℕ} {first : ℕ} {p : Place} {t : Token} (n : NextToken 
       pick (suc (suc zero)) l f g h = h refl
       pick (suc (suc (suc k))) l f g h = absurd (omega arith)
 
+  -- a token that is neither none nor a `;` is a word
+  pub token-left : (t .kind ≡ 0 → ⊥) → (t .kind ≡ 1 → ⊥) → t .kind ≡ 2
+  token-left f g = token-cases (λ e. absurd (f e)) (λ e. absurd (g e)) (λ e. e)
+
 -- ---- Says
 
 module _ {z : Option ℤ} {r : Number} (s : Says z r) where

@@ -1,3 +1,7 @@
+use mathlib.Core.Path.{_≡_, refl, sym, ap, _∙_}
+use native.Mathlib.Omega.{arith}
+use Rattle.words.proofs.TokenLaws.{token-left}
+use Rattle.reading.proofs.ClosingLaws.{statement-none, statement-empty, statement-objective, statement-other}
 use borrow.Author.Needs.{needs}
 use Rattle.reading.proofs.statements.read_statement.Statement.{statement}
 use Rattle.reading.proofs.statements.read_statement.Tie as tie
@@ -9,65 +13,50 @@ use Rattle.reading.proofs.statements.read_row.Reads as read-row-reads
 use Rattle.words.proofs.next_token.Reads as next-token-reads
 use Rattle.words.proofs.numbers.is_min.Reads as is-min-reads
 
--- src/statements.rt:170:9
 next-token-requires : tie.Need-next-token-requires
 next-token-requires c κs = search needs
 
--- src/statements.rt:173:9
 only-requires : tie.Need-only-requires
 only-requires c κs = search needs
 
--- src/statements.rt:173:9
 returns : tie.Need-returns
-returns c = ?
+returns c = statement-none (c .before .before .next-token .ensures) (c .before .if1 .taken) (c .only .ensures)
 
--- src/statements.rt:176:9
 only-requires-2 : tie.Need-only-requires-2
 only-requires-2 c κs = search needs
 
--- src/statements.rt:176:9
 returns-2 : tie.Need-returns-2
-returns-2 c = ?
+returns-2 c = statement-empty (c .before .before .before .next-token .ensures) (c .before .if2 .taken) (c .only2 .ensures)
 
--- src/statements.rt:180:15
 sub-is-min : tie.Need-sub-is-min
 sub-is-min c = search needs
 
--- src/statements.rt:180:15
 part-is-min-start : tie.Need-part-is-min-start
 part-is-min-start c = search needs
 
--- src/statements.rt:180:15
 part-is-min-end : tie.Need-part-is-min-end
 part-is-min-end c = search needs
 
--- src/statements.rt:180:8
 is-min-requires : tie.Need-is-min-requires
 is-min-requires c κs = search needs
 
--- src/statements.rt:181:9
 read-objective-requires : tie.Need-read-objective-requires
 read-objective-requires c κs = search needs
 
--- src/statements.rt:181:9
 same-length : tie.Need-same-length
 same-length c = search needs
 
--- src/statements.rt:181:9
 returns-3 : tie.Need-returns-3
-returns-3 c = ?
+returns-3 c = statement-objective (c .before .before .before .before .before .before .before .before .next-token .ensures) (token-left (c .before .before .before .before .before .before .before .before .next-token .ensures) (c .before .before .before .before .before .before .before .if1 .left) (c .before .before .before .before .before .before .if2 .left)) (sym (c .before .before .before .before .is-min .ensures) ∙ c .before .before .before .if3 .taken) (c .before .read-objective .ensures)
 
--- src/statements.rt:183:5
 read-row-requires : tie.Need-read-row-requires
 read-row-requires c κs = search needs
 
--- src/statements.rt:164:1
 same-length-2 : tie.Need-same-length-2
 same-length-2 c = search needs
 
--- src/statements.rt:164:1
 returns-4 : tie.Need-returns-4
-returns-4 c = ?
+returns-4 c = statement-other (c .before .before .before .before .before .before .before .before .next-token .ensures) (token-left (c .before .before .before .before .before .before .before .before .next-token .ensures) (c .before .before .before .before .before .before .before .if1 .left) (c .before .before .before .before .before .before .if2 .left)) (sym (c .before .before .before .before .is-min .ensures) ∙ c .before .before .before .if3 .left) (c .before .read-row .ensures)
 
 pub read-statement-spec : {M : Type 1} → statement M
 read-statement-spec =
