@@ -9,17 +9,15 @@ use lib.ListN.{length, getD, take, drop, replicate, length-drop, length-replicat
 use lib.Seq.{take-suc, take-add, length-take-le, getD-take, getD-drop, ext-getD}
 use lib.Signed.{nonNeg}
 use lib.Dec.{T}
-use Rattle.instance.specs.Limits.{maxTerms, termRoom, rowRoom}
+use Rattle.instance.specs.Limits.{termRoom, rowRoom}
 use Rattle.instance.specs.Lists.{tabulate}
 use Rattle.instance.specs.Terms.{Term, TermOk, highest}
-use Rattle.instance.specs.Rows.{Entry}
 use Rattle.instance.specs.Tables.{termAt, kindAt, firstAt, countAt, boundAt, objectivesIn, rowsIn, entriesIn, termsIn, termsBefore, ZeroFrom, IsInstance}
 use Rattle.instance.specs.Meaning.{entries, termsAt, entryAt, meaning}
 use Rattle.instance.specs.Layout.{termNumbers, allTerms, entryNumbers, filled, termTable, rowTable, ObjectiveOk, RowOk, Within}
-use Rattle.instance.proofs.ListLaws.{tabulate-same, tabulate-append, tabulate-snoc, tabulate-length, tabulate-each}
-use Rattle.instance.proofs.TableLaws.{termsBefore-zero, termsBefore-step, termsBefore-le}
+use Rattle.instance.proofs.ListLaws.{tabulate-append, tabulate-snoc, tabulate-length, tabulate-each}
 use Rattle.instance.proofs.NumberLaws.{allTerms-append, termNumbers-append, entryNumbers-append}
-use Rattle.instance.proofs.InstanceLaws.{RowKind, objective-kind, row-kind, kind-natural, terms-ok}
+use Rattle.instance.proofs.InstanceLaws.{objective-kind, row-kind, kind-natural, terms-ok}
 
 -- ---- the first numbers of a table
 take-two : (l : List ℤ) (j : ℕ) → j + 2 ≤ length l → take (j + 2) l ≡ take j l ++ (getD l j (pos 0) ∷ (getD l (j + 1) (pos 0) ∷ []))
