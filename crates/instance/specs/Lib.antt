@@ -6,3 +6,5 @@ pub mod Rows
 pub mod Tables
 pub mod Meaning
 pub mod Layout
+pub mod Tests
+pub mod Answers

@@ -1,0 +1,60 @@
+-- Each number is compared with 0. Invariant: the numbers passed are 0. Measure: the numbers left.
+use mathlib.Core.Path.{_≡_, ap}
+use Prim.Native.Nat.{ℕ, _-_, _≤_, _<_}
+use native.Mathlib.Omega.{arith}
+use mir.Syntax.{w64}
+use mir.Val.{ofZ}
+use borrow.Author.Needs.{needs}
+use Rattle.instance.specs.Limits.{rowRoom}
+use Rattle.instance.specs.Tables.{ZeroFrom}
+use Rattle.instance.proofs.SignedLaws.{zero-bits}
+use Rattle.instance.proofs.TableLaws.{zero-more}
+use Rattle.instance.proofs.TestLaws.{fails, holds}
+use Rattle.instance.proofs.zeros.zero_rows.Statement.{statement}
+use Rattle.instance.proofs.zeros.zero_rows.Tie as tie
+
+abbrev Inv-loop : tie.InvT-loop
+Inv-loop rows first i₀ i = (first ≤ i) × ZeroFrom rows first i
+
+abbrev μ-loop : tie.MeasureT-loop
+μ-loop rows first i₀ i = rowRoom - i
+
+loop-holds : tie.Need-loop-holds Inv-loop μ-loop
+loop-holds c = (omega arith, λ j h l. absurd (omega arith))
+
+mul-if1 : tie.Need-mul-if1 Inv-loop μ-loop
+mul-if1 c = search needs
+
+shared-slice-copy-out-if1 : tie.Need-shared-slice-copy-out-if1 Inv-loop μ-loop
+shared-slice-copy-out-if1 c = omega arith
+
+returns : tie.Need-returns Inv-loop μ-loop
+returns c =
+    fails (λ h. c .if1 .taken (ap (ofZ w64) (h (c .before .before .before .loop .i) (c .before .before .before .loop .inv .0) (c .before .before .loop-test .taken))))
+
+add-i : tie.Need-add-i Inv-loop μ-loop
+add-i c = omega arith
+
+loop-less : tie.Need-loop-less Inv-loop μ-loop
+loop-less c = omega arith
+
+loop-again : tie.Need-loop-again Inv-loop μ-loop
+loop-again c = (omega arith, zero-more (c .before .before .before .before .args .rows .now) (c .before .before .before .loop .inv .1) (zero-bits w64 (c .before .if12 .given) (c .if1 .left)))
+
+returns-2 : tie.Need-returns-2 Inv-loop μ-loop
+returns-2 c = holds (λ j h l. c .before .loop .inv .1 j h (omega arith))
+
+pub zero-rows-spec : {M : Type 1} → statement M
+zero-rows-spec =
+    tie.close
+    (tie.spec
+    Inv-loop
+    μ-loop
+    loop-holds
+    mul-if1
+    shared-slice-copy-out-if1
+    returns
+    add-i
+    loop-less
+    loop-again
+    returns-2)
