@@ -1,14 +1,15 @@
 -- Laws of lists of terms: the highest variable, and sums, which stay small where all terms are in range.
 use mathlib.Core.Path.{_≡_, refl, sym, ap, _∙_, subst}
 use mathlib.Core.Bool.{Bool, true, false, cond}
-use mathlib.Core.List.{List, [], _∷_, _++_, List·Memᴰ, List·Memᴰ·head, List·Memᴰ·tail}
+use mathlib.Core.List.{List, [], _∷_, _++_, List·Memᴰ, List·Memᴰ·head, List·Memᴰ·tail, List·Memᴰ·not-nil, List·Memᴰ·cases-cons}
+use mathlib.Core.Logic.{⊎-elim}
 use Prim.Native.Nat.{ℕ, zero, suc, _+_, _*_, _^_, _≤_, _<_, max, zero-le}
 use native.Mathlib.Omega.{arith}
 use lib.IntN.{ℤ, pos, natAbs, _+ℤ_, +ℤ-idl, +ℤ-idr, +ℤ-assoc}
 use lib.ListN.{length}
 use mir.Syntax.{w64}
 use mir.Val.{SFits}
-use Rattle.instance.specs.Limits.{maxCoef, maxTerms, maxBound}
+use Rattle.instance.specs.Limits.{maxCoef, maxTerms, maxVariable, maxBound}
 use Rattle.instance.specs.Lists.{tabulate}
 use Rattle.instance.specs.Terms.{Term, TermOk, litTrue, termValue, sum, highest}
 use Rattle.instance.specs.Tables.{termAt}
@@ -36,6 +37,23 @@ pub highest-more : (ts : List ℤ) (n : ℕ) → max (highest (termsAt ts 0 n)) 
 highest-more ts n =
     let e : n ≡ 0 + n = omega arith in
     ap (λ (k : ℕ). max (highest (termsAt ts 0 n)) (natAbs ((termAt ts k) .lit))) e ∙ sym (highest-step ts 0 n)
+
+-- No term names a higher variable,
+pub highest-member : (xs : List Term) (t : Term) → List·Memᴰ t xs → natAbs (t .lit) ≤ highest xs
+unfolding highest
+highest-member [] t m = absurd (List·Memᴰ·not-nil m)
+highest-member (x ∷ xs) t m =
+    ⊎-elim (λ e. let s : natAbs (t .lit) ≡ natAbs (x .lit) = ap (λ (u : Term). natAbs (u .lit)) e in omega arith)
+    (λ n. let r : natAbs (t .lit) ≤ highest xs = highest-member xs t n in omega arith)
+    (List·Memᴰ·cases-cons m)
+
+-- and where all are in range it is at most 64.
+pub highest-le : (xs : List Term) → ((t : Term) → List·Memᴰ t xs → TermOk t) → highest xs ≤ maxVariable
+unfolding highest
+highest-le [] o = zero-le
+highest-le (x ∷ xs) o =
+    let r : highest xs ≤ maxVariable = highest-le xs (λ t m. o t (List·Memᴰ·tail m)) in
+    omega (arith, o x (List·Memᴰ·head refl) .named .high)
 
 -- ---- sum
 pub sum-append : (xs ys : List Term) (a : ℕ) → sum (xs ++ ys) a ≡ sum xs a +ℤ sum ys a

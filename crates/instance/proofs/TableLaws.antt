@@ -14,7 +14,7 @@ use native.Mathlib.Numerals.{add-one}
 use Rattle.instance.specs.Limits.{maxTerms, maxEntries}
 use Rattle.instance.specs.Lists.{run}
 use Rattle.instance.specs.Tables.{ZeroFrom, EntryOk, termsBefore, countAt, isRow, objectivesIn, rowsIn}
-use Rattle.instance.specs.Answers.{EntriesOk, EntryPlaced}
+use Rattle.instance.specs.Parts.{EntriesOk, EntryPlaced}
 
 -- ---- ZeroFrom
 pub zero-more : (xs : List ℤ) {first n : ℕ} → ZeroFrom xs first n → getD xs n (pos 0) ≡ pos 0 → ZeroFrom xs first (n + 1)

@@ -17,7 +17,7 @@ ghost use Rattle.instance.specs.Limits.{maxTerms, maxEntries, rowRoom};
 ghost use Rattle.instance.specs.Lists.{run};
 ghost use Rattle.instance.specs.Tables.{objectivesIn, isRow};
 ghost use Rattle.instance.specs.Tests.{Decides};
-ghost use Rattle.instance.specs.Answers.{EntryPlaced, TotalOf, NoBounds};
+ghost use Rattle.instance.specs.Parts.{EntryPlaced, TotalOf, NoBounds};
 
 // How many objectives come first.
 pub fn objectives_of(rows: &[i64]) -> usize

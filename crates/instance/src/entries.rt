@@ -7,7 +7,7 @@ ghost use mathlib.Core.Path.{_≡_};
 ghost use Prim.Native.Nat.{_+_, _*_, _<_};
 ghost use lib.ListN.{length};
 ghost use Rattle.instance.specs.Tables.{kindAt, firstAt, countAt, boundAt, isObjective, isRow};
-ghost use Rattle.instance.specs.Answers.{EntryFine, EntryIs};
+ghost use Rattle.instance.specs.Structs.{EntryFine, EntryIs};
 
 // An entry: its kind, its first term's index, its count of terms, its bound (0 for an objective).
 pub struct Entry {
@@ -20,13 +20,13 @@ pub struct Entry {
 impl Entry {
     // Numbers of the table for one entry.
     pub const NUMBERS: usize = 4;
-    // The kinds.
+    // Kind 1: an objective.
     pub const OBJECTIVE: usize = 1;
-
+    // Kind 2: a row `>=`.
     pub const AT_LEAST: usize = 2;
-
+    // Kind 3: a row `<=`.
     pub const AT_MOST: usize = 3;
-
+    // Kind 4: a row `=`.
     pub const EQUAL: usize = 4;
     // Bounds are within this of zero, and so is every sum.
     pub const MAX_BOUND: u64 = Instance::MAX_TERMS as u64 * Term::MAX_COEF;

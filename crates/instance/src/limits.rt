@@ -3,7 +3,7 @@ use crate::entries::Entry;
 use crate::tables::Instance;
 use crate::terms::Term;
 ghost use mathlib.Core.Path.{_≡_};
-ghost use Rattle.instance.specs.Answers.{limitsNamed};
+ghost use Rattle.instance.specs.Structs.{limitsNamed};
 
 // Each limit of the code, under the name of what it limits.
 pub struct Limits {

@@ -27,17 +27,17 @@ pub enum Checked {
 }
 
 impl Instance {
-    // At least 1 objective, and at most so many.
+    // Objectives: at least 1, and at most so many.
     pub const MAX_OBJECTIVES: usize = 4;
-
+    // Rows.
     pub const MAX_ROWS: usize = 256;
     // Terms over all objectives and rows.
     pub const MAX_TERMS: usize = 4_096;
-
+    // Entries of the row table: objectives and rows.
     pub const MAX_ENTRIES: usize = Instance::MAX_OBJECTIVES + Instance::MAX_ROWS;
-    // Numbers of the two tables; those beyond are never touched.
+    // Numbers of the term table; those beyond are never touched.
     pub const TERM_ROOM: usize = Instance::MAX_TERMS * Term::NUMBERS;
-
+    // Numbers of the row table; those beyond are never touched.
     pub const ROW_ROOM: usize = Instance::MAX_ENTRIES * Entry::NUMBERS;
 
     // Decides whether the lent tables are an instance, and answers its sizes.

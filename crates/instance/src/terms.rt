@@ -7,7 +7,8 @@ ghost use lib.ListN.{length};
 ghost use Rattle.instance.specs.Terms.{TermOk};
 ghost use Rattle.instance.specs.Tables.{termAt};
 ghost use Rattle.instance.specs.Tests.{Decides};
-ghost use Rattle.instance.specs.Answers.{termOf, NamedIn};
+ghost use Rattle.instance.specs.Parts.{NamedIn};
+ghost use Rattle.instance.specs.Structs.{termOf};
 
 // A coefficient and a literal, i for xi and -i for ~xi.
 pub struct Term {

@@ -9,7 +9,7 @@ use mir.Syntax.{w64}
 use borrow.Author.Needs.{needs}
 use Rattle.instance.specs.Tables.{boundAt, isKind}
 use Rattle.instance.specs.Tests.{Decides}
-use Rattle.instance.specs.Answers.{NoBounds}
+use Rattle.instance.specs.Parts.{NoBounds}
 use Rattle.instance.proofs.SignedLaws.{result-as}
 use Rattle.instance.proofs.TestLaws.{refused, accepted, fails, holds, isKind-decides}
 use Rattle.instance.proofs.counts.no_bounds.Statement.{statement}

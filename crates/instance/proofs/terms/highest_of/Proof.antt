@@ -10,7 +10,7 @@ use Rattle.instance.specs.Terms.{Term, TermOk, highest}
 use Rattle.instance.specs.Tables.{termAt}
 use Rattle.instance.specs.Meaning.{termsAt}
 use Rattle.instance.specs.Tests.{Decides}
-use Rattle.instance.specs.Answers.{TermsOk}
+use Rattle.instance.specs.Parts.{TermsOk}
 use Rattle.instance.proofs.TestLaws.{refused, accepted}
 use Rattle.instance.proofs.SumLaws.{highest-none, highest-more}
 use Rattle.instance.proofs.terms.highest_of.Statement.{statement}

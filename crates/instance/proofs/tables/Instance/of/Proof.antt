@@ -7,7 +7,7 @@ use native.Mathlib.Omega.{arith}
 use lib.IntN.{ℤ}
 use Rattle.instance.specs.Limits.{maxRows, termRoom, rowRoom}
 use Rattle.instance.specs.Tables.{ZeroFrom, objectivesIn, rowsIn, entriesIn, termsIn, IsInstance}
-use Rattle.instance.specs.Answers.{TotalOf, NamedIn, NoBounds, EntriesOk}
+use Rattle.instance.specs.Parts.{TotalOf, NamedIn, NoBounds, EntriesOk}
 use Rattle.instance.specs.declared.terms.Named.the-variants.{Highest}
 use Rattle.instance.proofs.TestLaws.{refused, accepted}
 use Rattle.instance.proofs.TableLaws.{rowsIn-from}
