@@ -1,7 +1,10 @@
 -- Laws, for the crates that read text back or list it:
 -- RestLaws: what puts leave to be written
 -- TextLaws: the parts of a text
--- LengthLaws: how long the parts of a text can be
+-- LengthLaws, WithinLaws: how long the parts and the whole can be
+-- TableTextLaws: the text of tables, entry by entry
 pub mod RestLaws
 pub mod TextLaws
 pub mod LengthLaws
+pub mod WithinLaws
+pub mod TableTextLaws

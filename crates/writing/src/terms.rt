@@ -5,7 +5,7 @@ ghost use mathlib.Core.Path.{_≡_};
 ghost use Prim.Native.Nat.{_+_, _-_, _*_, _≤_};
 ghost use lib.ListN.{length};
 ghost use Rattle.decimal.specs.Bytes.{overwrite};
-ghost use Rattle.instance.specs.Answers.{termOf};
+ghost use Rattle.instance.specs.Structs.{termOf};
 ghost use Rattle.instance.specs.Meaning.{termsAt};
 ghost use Rattle.writing.specs.Limits.{maxWritten};
 ghost use Rattle.writing.specs.Writing.{literalText, termText, termsText};

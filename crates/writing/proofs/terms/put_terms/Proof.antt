@@ -6,7 +6,7 @@ use Prim.Native.Nat.{ℕ, _+_, _-_, _≤_, _<_}
 use native.Mathlib.Omega.{arith}
 use borrow.Author.Needs.{needs}
 use lib.ListN.{length}
-use Rattle.instance.specs.Answers.{termOf}
+use Rattle.instance.specs.Structs.{termOf}
 use Rattle.instance.specs.Terms.{Term}
 use Rattle.instance.specs.Tables.{termAt}
 use Rattle.instance.specs.Meaning.{termsAt}

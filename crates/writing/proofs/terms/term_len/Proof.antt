@@ -9,7 +9,7 @@ use mir.Facts.{toZ-ofZ}
 use mir.Syntax.{w64}
 use mir.Val.{toZ, ofZ}
 use Rattle.decimal.specs.Decimal.{integer, signed}
-use Rattle.instance.specs.Answers.{termOf}
+use Rattle.instance.specs.Structs.{termOf}
 use Rattle.instance.proofs.SignedLaws.{result-as}
 use Rattle.writing.specs.Writing.{literalText}
 use Rattle.writing.proofs.TextLaws.{literal-length, term-length}
