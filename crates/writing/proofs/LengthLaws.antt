@@ -1,5 +1,5 @@
 -- How long the parts of a text can be: of any number, and of numbers in range. Assumes nothing.
-use mathlib.Core.Path.{_≡_, sym, ap, _∙_}
+use mathlib.Core.Path.{_≡_, ap}
 use mathlib.Core.Bool.{Bool, true, false, cond}
 use mathlib.Core.List.{List, [], _∷_, _++_}
 use Prim.Native.Nat.{ℕ, zero, suc, _+_, _/_, _%_, _^_, _≤_, _<_}
@@ -9,12 +9,11 @@ use lib.IntN.{ℤ, pos, negsuc, natAbs}
 use lib.ListN.{length, length-append}
 use Rattle.decimal.specs.Decimal.{decimalIn, decimal, digitByte, integer, signed}
 use Rattle.decimal.proofs.DecimalLaws.{decimal-length}
-use Rattle.instance.specs.Limits.{maxBound}
 use Rattle.instance.specs.Terms.{Term, TermOk}
 use Rattle.instance.specs.Rows.{Entry}
 use Rattle.instance.specs.Layout.{ObjectiveOk, RowOk}
 use Rattle.writing.specs.Limits.{maxTermText, maxRowText, objectiveText}
-use Rattle.writing.specs.Writing.{literalText, termText, termsText, headText, relationText, boundText, statementText}
+use Rattle.writing.specs.Writing.{literalText, termText, termsText, relationText, statementText}
 use Rattle.writing.proofs.TextLaws.{term-length, head-objective, head-row, bound-objective, bound-length, statement-length}
 
 -- the longer of two choices

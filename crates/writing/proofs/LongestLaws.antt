@@ -7,7 +7,7 @@ use mathlib.Core.Logic.{⊎-elim}
 use Prim.Native.Nat.{ℕ, zero, suc, _+_, _*_, _≤_}
 use native.Mathlib.Nat.{suc-mul}
 use native.Mathlib.Omega.{arith}
-use lib.IntN.{ℤ, pos, negsuc, negℤ, natAbs}
+use lib.IntN.{pos, negℤ}
 use lib.ListN.{length, replicate, length-replicate, length-append}
 use Rattle.decimal.specs.Decimal.{decimalIn}
 use Rattle.instance.specs.Limits.{maxObjectives, maxRows, maxTerms, maxVariable, maxCoef, maxBound}
@@ -133,8 +133,8 @@ long-within n m h l =
       objectives = longObjectives-ok n;
       rows = replicate-each RowOk m longRow longRow-ok;
       terms =
-        subst (λ (ts : List Term). (t : Term) → List·Memᴰ t ts → TermOk t) (sym all)
-        (replicate-each TermOk n longTerm longTerm-ok);
+          subst (λ (ts : List Term). (t : Term) → List·Memᴰ t ts → TermOk t) (sym all)
+          (replicate-each TermOk n longTerm longTerm-ok);
       variables = ap highest (sym all);
     }
 

@@ -59,8 +59,8 @@ module _ {xs : List ℕ} {at : ℕ} {text out : List ℕ} {place : ℕ} where
           size = ap length (p .0) ∙ overwrite-length out place ys rest-room ∙ r .size;
           ends = omega (arith, p .1, r .ends, length-append ys rest);
           same =
-            ap (λ (o : List ℕ). overwrite o place′ rest) (p .0)
-            ∙ ap (λ (k : ℕ). overwrite (overwrite out place ys) k rest) (p .1)
-            ∙ overwrite-append out place ys rest room
-            ∙ r .same;
+              ap (λ (o : List ℕ). overwrite o place′ rest) (p .0)
+              ∙ ap (λ (k : ℕ). overwrite (overwrite out place ys) k rest) (p .1)
+              ∙ overwrite-append out place ys rest room
+              ∙ r .same;
         }

@@ -8,7 +8,7 @@ use lib.ListN.{length}
 use Rattle.instance.specs.Lists.{tabulate}
 use Rattle.instance.specs.Terms.{Term}
 use Rattle.instance.specs.Rows.{Entry}
-use Rattle.instance.specs.Tables.{IsInstance, entriesIn, boundAt, kindAt, firstAt, countAt}
+use Rattle.instance.specs.Tables.{IsInstance, entriesIn}
 use Rattle.instance.specs.Meaning.{entryAt, meaning, termsAt}
 use Rattle.instance.specs.Structs.{EntryIs}
 use Rattle.instance.specs.declared.entries.Entry.{Entry as EntryNumbers}

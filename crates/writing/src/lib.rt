@@ -7,9 +7,11 @@
 mod terms; // terms.rt: a literal, a term, the terms of an entry
 mod statements; // statements.rt: an objective or a row
 
-use instance::{Checked, Entry, Instance};
-use crate::statements::{put_statement, statement_len};
-
+use crate::statements::put_statement;
+use crate::statements::statement_len;
+use instance::Checked;
+use instance::Entry;
+use instance::Instance;
 ghost use mathlib.Core.Path.{_≡_};
 ghost use Prim.Native.Nat.{_≤_};
 ghost use lib.ListN.{length};

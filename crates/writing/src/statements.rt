@@ -1,7 +1,7 @@
 // Statements as text: an objective or a row (document 01, 'Written text').
+use crate::terms::put_terms;
+use crate::terms::terms_len;
 use instance::Entry;
-use crate::terms::{put_terms, terms_len};
-
 ghost use mathlib.Core.Path.{_≡_};
 ghost use Prim.Native.Nat.{_+_, _*_, _≤_};
 ghost use lib.ListN.{length};

@@ -1,6 +1,5 @@
 // Terms as text: each is sign, digits, space, literal, space (document 01, 'Written text').
 use instance::Term;
-
 ghost use mathlib.Core.Path.{_≡_};
 ghost use Prim.Native.Nat.{_+_, _-_, _*_, _≤_};
 ghost use lib.ListN.{length};

@@ -1,12 +1,10 @@
 -- `writing::put_text` meets its contract: each turn puts one statement.
 -- The loop's invariant: to write the statements that are left now gives the whole text. The measure is the number of entries left.
 -- Assumes nothing.
-use mathlib.Core.Path.{_≡_, sym, ap, _∙_}
+use mathlib.Core.Path.{sym, ap}
 use mathlib.Core.List.{_++_}
 use Prim.Native.Nat.{_+_, _-_, _≤_}
 use native.Mathlib.Omega.{arith}
-use borrow.Author.Needs.{needs}
-use lib.ListN.{length}
 use Rattle.instance.specs.Lists.{tabulate}
 use Rattle.instance.specs.Rows.{Entry}
 use Rattle.instance.specs.Meaning.{entryAt}

@@ -1,18 +1,15 @@
 -- `writing::text_len` meets its contract: each turn adds the length of one statement.
 -- The loop's invariant: the sum and the length of the statements that are left are together that of the text. The measure is the number of
 -- entries left. Assumes nothing.
-use mathlib.Core.Path.{_≡_, ap, _∙_}
-use mathlib.Core.List.{_++_}
+use mathlib.Core.Path.{_≡_, ap}
 use Prim.Native.Nat.{_+_, _-_, _≤_}
 use native.Mathlib.Omega.{arith}
-use borrow.Author.Needs.{needs}
 use lib.ListN.{length, length-append}
 use Rattle.instance.specs.Lists.{tabulate}
 use Rattle.instance.specs.Rows.{Entry}
 use Rattle.instance.specs.Meaning.{entryAt}
 use Rattle.instance.proofs.InstanceLaws.{entry-fine}
 use Rattle.writing.specs.Answers.{textOf, entryOf}
-use Rattle.writing.specs.Limits.{maxWritten}
 use Rattle.writing.specs.Writing.{statementText, statementsText}
 use Rattle.writing.proofs.TextLaws.{statements-more, statements-none}
 use Rattle.writing.proofs.TableTextLaws.{entry-as, entry-room, text-entries, text-most}

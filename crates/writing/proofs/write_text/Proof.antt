@@ -1,13 +1,11 @@
 -- `writing::write_text` meets its contract: the tables are checked, then the length of the text is compared with the output's, then the text
 -- is put, so a refusal comes before any write. Assumes nothing.
 use mathlib.Core.Path.{_≡_, refl, subst}
-use Prim.Native.Nat.{_+_, _<_}
+use Prim.Native.Nat.{_+_}
 use native.Mathlib.Omega.{arith}
 use borrow.Author.Needs.{needs}
-use lib.ListN.{length}
-use Rattle.instance.specs.Tables.{entriesIn, IsInstance}
+use Rattle.instance.specs.Tables.{entriesIn}
 use Rattle.instance.specs.Answers.{CheckedAs, SizesOf}
-use Rattle.writing.specs.Answers.{textOf}
 use Rattle.writing.proofs.write_text.Statement.{statement}
 use Rattle.writing.proofs.write_text.Tie as tie
 

@@ -1,11 +1,9 @@
-use borrow.Author.Needs.{needs}
+-- `writing::statements::head_len` meets its contract: `min:` and a space are 5 bytes. Assumes nothing.
 use mathlib.Core.Path.{ap}
 use lib.ListN.{length}
 use Rattle.writing.proofs.TextLaws.{head-objective, head-row}
 use Rattle.writing.proofs.statements.head_len.Statement.{statement}
 use Rattle.writing.proofs.statements.head_len.Tie as tie
-use Rattle.writing.proofs.statements.head_len.Reads as reads
-use Rattle.writing.proofs.statements.head_len.Lts as lts
 
 returns : tie.Need-returns
 returns c = ap length (head-objective (c .if1 .taken))

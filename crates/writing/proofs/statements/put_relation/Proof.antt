@@ -1,4 +1,5 @@
-use mathlib.Core.Path.{_≡_, ap}
+-- `writing::statements::put_relation` meets its contract: in each arm the bytes put are the relation of the kind. Assumes nothing.
+use mathlib.Core.Path.{ap}
 use native.Mathlib.Omega.{arith}
 use lib.ListN.{length}
 use Rattle.writing.proofs.RestLaws.{put-as}
@@ -6,10 +7,6 @@ use Rattle.writing.proofs.TextLaws.{relation-ge, relation-le, relation-
 use borrow.Author.Needs.{needs}
 use Rattle.writing.proofs.statements.put_relation.Statement.{statement}
 use Rattle.writing.proofs.statements.put_relation.Tie as tie
-use Rattle.writing.proofs.statements.put_relation.Reads as reads
-use Rattle.writing.proofs.statements.put_relation.Lts as lts
-use Rattle.decimal.proofs.put_byte.Reads as put-byte-reads
-use Rattle.decimal.proofs.put_bytes.Reads as put-bytes-reads
 
 slice-aggregate-put-bytes : tie.Need-slice-aggregate-put-bytes
 slice-aggregate-put-bytes c = search needs
@@ -21,7 +18,10 @@ same-length : tie.Need-same-length
 same-length c = search needs
 
 returns : tie.Need-returns
-returns c = put-as (c .before .before .before .before .before .before .before .args .out .now) (c .before .before .before .before .before .before .before .args .at) (relation-ge (c .before .before .before .before .before .if1 .taken)) (c .before .before .put-bytes .ensures)
+returns c =
+    let t = c .before .before .before .before .before in
+    let a = t .before .before .args in
+    put-as (a .out .now) (a .at) (relation-ge (t .if1 .taken)) (c .before .before .put-bytes .ensures)
 
 slice-aggregate-put-bytes-2 : tie.Need-slice-aggregate-put-bytes-2
 slice-aggregate-put-bytes-2 c = search needs
@@ -33,7 +33,10 @@ same-length-2 : tie.Need-same-length-2
 same-length-2 c = search needs
 
 returns-2 : tie.Need-returns-2
-returns-2 c = put-as (c .before .before .before .before .before .before .before .before .args .out .now) (c .before .before .before .before .before .before .before .before .args .at) (relation-le (c .before .before .before .before .before .before .if1 .left) (c .before .before .before .before .before .if2 .taken)) (c .before .before .put-bytes2 .ensures)
+returns-2 c =
+    let t = c .before .before .before .before .before in
+    let a = t .before .before .before .args in
+    put-as (a .out .now) (a .at) (relation-le (t .before .if1 .left) (t .if2 .taken)) (c .before .before .put-bytes2 .ensures)
 
 put-byte-requires : tie.Need-put-byte-requires
 put-byte-requires c κs = omega (arith, ap length (relation-eq (c .before .before .if1 .left) (c .before .if2 .left)))
@@ -42,7 +45,10 @@ same-length-3 : tie.Need-same-length-3
 same-length-3 c = search needs
 
 returns-3 : tie.Need-returns-3
-returns-3 c = put-as (c .before .before .before .before .before .before .before .args .out .now) (c .before .before .before .before .before .before .before .args .at) (relation-eq (c .before .before .before .before .before .if1 .left) (c .before .before .before .before .if2 .left)) (c .before .before .put-byte .ensures)
+returns-3 c =
+    let t = c .before .before .before .before in
+    let a = t .before .before .before .args in
+    put-as (a .out .now) (a .at) (relation-eq (t .before .if1 .left) (t .if2 .left)) (c .before .before .put-byte .ensures)
 
 pub put-relation-spec : {M : Type 1} → statement M
 put-relation-spec =

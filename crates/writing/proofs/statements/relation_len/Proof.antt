@@ -1,11 +1,9 @@
-use borrow.Author.Needs.{needs}
+-- `writing::statements::relation_len` meets its contract: `>=` and `<=` are 2 bytes, `=` is 1. Assumes nothing.
 use mathlib.Core.Path.{ap}
 use lib.ListN.{length}
 use Rattle.writing.proofs.TextLaws.{relation-ge, relation-le, relation-eq}
 use Rattle.writing.proofs.statements.relation_len.Statement.{statement}
 use Rattle.writing.proofs.statements.relation_len.Tie as tie
-use Rattle.writing.proofs.statements.relation_len.Reads as reads
-use Rattle.writing.proofs.statements.relation_len.Lts as lts
 
 returns : tie.Need-returns
 returns c = ap length (relation-ge (c .if1 .taken))

@@ -13,7 +13,7 @@ use Rattle.instance.specs.Tables.{termAt}
 use Rattle.instance.specs.Meaning.{termsAt}
 use Rattle.writing.specs.Answers.{entryOf}
 use Rattle.writing.specs.Limits.{maxWritten}
-use Rattle.writing.specs.Writing.{headText, termsText, boundText, statementText}
+use Rattle.writing.specs.Writing.{termsText, boundText, statementText}
 use Rattle.writing.proofs.TextLaws.{terms-span, statement-length}
 use Rattle.writing.proofs.statements.statement_len.Statement.{statement}
 use Rattle.writing.proofs.statements.statement_len.Tie as tie

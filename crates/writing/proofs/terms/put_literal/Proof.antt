@@ -1,5 +1,5 @@
 -- `writing::terms::put_literal` meets its contract: `~x` or `x`, and then the digits of the variable, are the literal. Assumes nothing.
-use mathlib.Core.Path.{_≡_, sym}
+use mathlib.Core.Path.{sym}
 use mathlib.Core.List.{[], _∷_}
 use borrow.Author.Needs.{needs}
 use Rattle.decimal.specs.Decimal.{decimal}

@@ -1,11 +1,9 @@
 -- `writing::terms::put_terms` meets its contract: each turn puts one term.
 -- The loop's invariant: to write the terms that are left now gives what was asked. The measure is the number of terms left. Assumes nothing.
-use mathlib.Core.Path.{_≡_, sym, ap}
-use mathlib.Core.List.{List, _++_}
-use Prim.Native.Nat.{ℕ, _+_, _-_, _≤_, _<_}
+use mathlib.Core.Path.{sym, ap}
+use mathlib.Core.List.{_++_}
+use Prim.Native.Nat.{_+_, _-_, _≤_}
 use native.Mathlib.Omega.{arith}
-use borrow.Author.Needs.{needs}
-use lib.ListN.{length}
 use Rattle.instance.specs.Structs.{termOf}
 use Rattle.instance.specs.Terms.{Term}
 use Rattle.instance.specs.Tables.{termAt}

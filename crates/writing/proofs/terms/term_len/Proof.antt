@@ -8,7 +8,7 @@ use lib.ListN.{length}
 use mir.Facts.{toZ-ofZ}
 use mir.Syntax.{w64}
 use mir.Val.{toZ, ofZ}
-use Rattle.decimal.specs.Decimal.{integer, signed}
+use Rattle.decimal.specs.Decimal.{signed}
 use Rattle.instance.specs.Structs.{termOf}
 use Rattle.instance.proofs.SignedLaws.{result-as}
 use Rattle.writing.specs.Writing.{literalText}

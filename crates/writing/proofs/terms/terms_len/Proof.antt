@@ -1,7 +1,6 @@
 -- `writing::terms::terms_len` meets its contract: each turn adds the length of one term.
 -- The loop's invariant: the sum and the length of the terms that are left are together that of all. The measure is the number of terms left. Assumes nothing.
 use mathlib.Core.Path.{_≡_, ap, _∙_}
-use mathlib.Core.List.{_++_}
 use Prim.Native.Nat.{_+_, _-_, _≤_}
 use native.Mathlib.Omega.{arith}
 use borrow.Author.Needs.{needs}

@@ -1,12 +1,9 @@
-use borrow.Author.Needs.{needs}
-use mathlib.Core.Path.{_≡_}
+-- `writing::terms::wide` meets its contract: a number of 32 bits is the same in 64. Assumes nothing.
 use mir.Syntax.{w32}
 use mir.Facts.{toZ-ofZ, sfits-widen}
 use Rattle.decimal.proofs.SignedLaws.{fits-as, read-as}
 use Rattle.writing.proofs.terms.wide.Statement.{statement}
 use Rattle.writing.proofs.terms.wide.Tie as tie
-use Rattle.writing.proofs.terms.wide.Reads as reads
-use Rattle.writing.proofs.terms.wide.Lts as lts
 
 cast-result : tie.Need-cast-result
 cast-result c = fits-as (toZ-ofZ (c .fits .x)) (sfits-widen {w = w32} tt (c .fits .x))
