@@ -32,6 +32,8 @@ enum-told c = search needs
 returns : tie.Need-returns
 returns c =
     let a = c .before .before .before .before .args in record {
+      numbered = refl;
+      none = refl;
       is-not = subst (CheckedAs (a .terms .now) (a .rows .now)) (c .enum-told .given .1) (c .before .before .of .ensures);
       output = refl;
     }
@@ -46,6 +48,8 @@ text-len-requires c κs = (told (c .before .before) .is, used (c .before .before
 
 returns-2 : tie.Need-returns-2
 returns-2 c = record {
+  numbered = refl;
+  none = refl;
   is = told (c .before .before .before .before) .is;
   short = omega (arith, c .if1 .taken, c .before .text-len .ensures);
   output = refl;
@@ -63,6 +67,7 @@ returns-3 : tie.Need-returns-3
 returns-3 c =
     let p = c .before .before .put-text in
     let e = c .before .before .before .before in record {
+      numbered = refl;
       is = told (e .before .before .before .before) .is;
       room = omega (arith, e .if1 .left, e .before .text-len .ensures);
       count = p .ensures .1;
