@@ -5,3 +5,4 @@ pub mod StepLaws
 pub mod RunLaws
 pub mod StatementLaws
 pub mod ClosingLaws
+pub mod FillLaws
