@@ -6,3 +6,4 @@ pub mod RunLaws
 pub mod StatementLaws
 pub mod ClosingLaws
 pub mod FillLaws
+pub mod MarksLaws

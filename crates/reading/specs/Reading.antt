@@ -61,9 +61,9 @@ addTo true es e = es ++ (e ∷ [])
 addTo false es e = es
 
 -- Statement s: refusal 3, 4 to 8, or the entry is added and the next statement read.
-abbrev pub take1 : Option Entry → ℕ → List Entry → List Entry → (List Entry → List Entry → Outcome) → Outcome
-take1 none s os rs more = refused 3 s
-take1 (some e) s os rs more = goOn (verdict os rs e) s (more (addTo (isFirst e) os e) (addTo (not (isFirst e)) rs e))
+abbrev pub takeOne : Option Entry → ℕ → List Entry → List Entry → (List Entry → List Entry → Outcome) → Outcome
+takeOne none s os rs more = refused 3 s
+takeOne (some e) s os rs more = goOn (verdict os rs e) s (more (addTo (isFirst e) os e) (addTo (not (isFirst e)) rs e))
 
 -- After the last statement: words that no `;` ends are one more, which breaks the grammar; then there must be an objective.
 abbrev pub finish : ℕ → List Entry → List Entry → Words → Outcome
@@ -74,7 +74,7 @@ finish s (o ∷ os) rs [] = accepted (o ∷ os) rs
 -- The statements in turn, the first of them number s.
 unfoldable pub readOn : ℕ → List Entry → List Entry → List Words → Words → Outcome
 readOn s os rs [] after = finish s os rs after
-readOn s os rs (ws ∷ more) after = take1 (statement ws) s os rs (λ os′ rs′. readOn (suc s) os′ rs′ more after)
+readOn s os rs (ws ∷ more) after = takeOne (statement ws) s os rs (λ os′ rs′. readOn (suc s) os′ rs′ more after)
 
 -- What the marks of a text say, from statement s on.
 abbrev pub readMarks : ℕ → List Entry → List Entry → List Mark → Outcome
