@@ -216,7 +216,7 @@ module _ {text : List ℕ} {p : Place} {t : Token} (n : NextToken text 0 p t) {b
   pub statement-none : t .kind ≡ 0 → s .kind ≡ 0 → StatementIs text (marksAt p text) base before before s
   statement-none k z = record {
     kept = refl;
-    nothing = λ _. token-none n k;
+    nothing = λ _. (token-none n k, refl);
     more = λ h. absurd (h z);
     closing = λ h. absurd (h z);
   }

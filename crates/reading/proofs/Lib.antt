@@ -7,3 +7,5 @@ pub mod StatementLaws
 pub mod ClosingLaws
 pub mod FillLaws
 pub mod MarksLaws
+pub mod VerdictLaws
+pub mod ReadLaws

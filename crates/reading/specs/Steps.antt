@@ -163,6 +163,6 @@ pub record Closing (parse : Words → Option Entry) (text : List ℕ) (ms : List
 -- What the marks ms of a part of a text begin with: nothing (0), or a statement.
 pub record StatementIs (text : List ℕ) (ms : List Mark) (base : ℕ) (before after : List ℤ) (s : Statement) : Type 0 where
   pub kept : Kept before after
-  pub nothing : s .kind ≡ 0 → ms ≡ []
+  pub nothing : s .kind ≡ 0 → (ms ≡ []) × (after ≡ before)
   pub more : (s .kind ≡ 0 → ⊥) → 1 ≤ length ms
   pub closing : (s .kind ≡ 0 → ⊥) → Closing statement text ms base before after s
