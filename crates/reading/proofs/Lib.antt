@@ -9,3 +9,4 @@ pub mod FillLaws
 pub mod MarksLaws
 pub mod VerdictLaws
 pub mod ReadLaws
+pub mod TakeLaws

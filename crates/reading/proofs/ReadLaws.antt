@@ -145,7 +145,7 @@ module _ {text : List ℕ} {found rows now rows′ : List ℤ} {at number object
   -- an entry
   module _ {now′ : List ℤ} {s : Statement} (e : EntryRead statement (drop at text) (marksAt (placeAt at) (drop at text)) total now now′ s) where
     -- what the text says goes by the verdict
-    goes : readBytes text ≡ goOn (verdict (t .os) (t .rs) (e .entry)) number (readMarks (suc number) (addTo (isFirst (e .entry)) (t .os) (e .entry)) (addTo (not (isFirst (e .entry))) (t .rs) (e .entry)) (restAfter (marksAt (placeAt at) (drop at text))))
+    pub goes : readBytes text ≡ goOn (verdict (t .os) (t .rs) (e .entry)) number (readMarks (suc number) (addTo (isFirst (e .entry)) (t .os) (e .entry)) (addTo (not (isFirst (e .entry))) (t .rs) (e .entry)) (restAfter (marksAt (placeAt at) (drop at text))))
     goes = t .says ∙ marks-entry number (t .os) (t .rs) (marksAt (placeAt at) (drop at text)) (e .entry) (e .closed) (e .parsed)
 
     pub verdict-is : verdictBy (lateBy (s .kind) others) (fullBy (s .kind) objectives others) (s .wide) (s .unnamed) (total + s .count) ≡ verdict (t .os) (t .rs) (e .entry)

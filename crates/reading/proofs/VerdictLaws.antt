@@ -93,3 +93,7 @@ module _ {os rs : List Entry} {e : Entry} (f : Fine os rs e) where
       by : (b : Bool) → cond b (leb maxObjectives (length os)) (leb maxRows (length rs)) ≡ false → (length (addTo (not b) rs e) ≡ length rs + (1 - cond b 1 0)) × (length (addTo (not b) rs e) ≤ maxRows)
       by true h = (omega arith, few)
       by false h = (length-append rs (e ∷ []), omega (arith, length-append rs (e ∷ []), leb-false maxRows (length rs) h))
+
+pub one-le : (b : Bool) → cond b 1 0 ≤ 1
+one-le true = omega arith
+one-le false = omega arith

@@ -106,6 +106,7 @@ pub record RunIs (text : List ℕ) (first base : ℕ) (before after : List ℤ) 
   pub reached : Reached terms (marksAt Inside (drop first text)) (marksAt Inside (drop at text))
   pub stops : IsStop text at (r .stop)
   pub count : r .count ≡ length terms
+  pub few : r .count ≤ length text
   pub wide : r .wide ≡ any isWide terms
   pub unnamed : r .unnamed ≡ any isUnnamed terms
   pub top : r .top ≡ highest terms
@@ -144,7 +145,9 @@ pub record EntryRead (parse : Words → Option Entry) (text : List ℕ) (ms : Li
   pub closed : isClosed ms ≡ true
   pub rest : restAfter ms ≡ marksAt Inside (drop (s .next) text)
   pub kind : s .kind ≡ entry .kind
+  pub kind-most : s .kind ≤ 4
   pub count : s .count ≡ length (entry .terms)
+  pub few : s .count ≤ length text
   pub bound : s .bound ≡ entry .bound
   pub wide : s .wide ≡ any isWide (entry .terms) || ltb maxBound (natAbs (entry .bound))
   pub unnamed : s .unnamed ≡ any isUnnamed (entry .terms)
