@@ -1,0 +1,5 @@
+-- Laws for the crates above.
+pub mod BitLaws
+pub mod MarginLaws
+pub mod UnmetLaws
+pub mod VectorLaws
