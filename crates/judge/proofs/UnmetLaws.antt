@@ -1,11 +1,13 @@
 -- Laws of the first unmet row: along a table's entries, and of all rows.
-use mathlib.Core.Path.{_≡_, refl, ap, _∙_}
+use mathlib.Core.Path.{_≡_, refl, sym, ap, _∙_}
 use mathlib.Core.Bool.{Bool, true, false, cond}
-use mathlib.Core.List.{List, _∷_}
-use Prim.Native.Nat.{ℕ, suc, _+_, _-_, _≤_, _<_}
+use mathlib.Core.List.{List, [], _∷_, List·Memᴰ, List·Memᴰ·head, List·Memᴰ·tail, List·Memᴰ·not-nil, List·Memᴰ·cases-cons}
+use mathlib.Core.Logic.{⊎-elim}
+use Prim.Native.Nat.{ℕ, suc, _+_, _-_, _^_, _≤_, _<_}
 use native.Mathlib.Omega.{arith}
 use Rattle.instance.specs.Lists.{tabulate}
 use Rattle.instance.specs.Rows.{Entry, holds}
+use Rattle.instance.specs.Meaning.{Instance, Feasible}
 use Rattle.instance.proofs.ListLaws.{tabulate-same}
 use Rattle.judge.specs.Judging.{unmetFrom, firstUnmet}
 
@@ -49,3 +51,26 @@ module _ (f : ℕ → Entry) (first count a : ℕ) where
   left-none k h =
       let e : count - k ≡ 0 = omega arith in
       ap (λ (n : ℕ). unmetFrom (k + 1) (tabulate f (first + k) n) a) e
+
+-- ---- all rows
+-- No row is unmet exactly where all hold.
+pub unmet-all : (k : ℕ) (es : List Entry) (a : ℕ) → ((e : Entry) → List·Memᴰ e es → holds e a ≡ true) → unmetFrom k es a ≡ 0
+unfolding unmetFrom
+unmet-all k [] a h = refl
+unmet-all k (e ∷ es) a h = unmet-holds k e es a (h e (List·Memᴰ·head refl)) ∙ unmet-all (suc k) es a (λ x m. h x (List·Memᴰ·tail m))
+
+pub all-met : (k : ℕ) (es : List Entry) (a : ℕ) → 1 ≤ k → unmetFrom k es a ≡ 0 → (e : Entry) → List·Memᴰ e es → holds e a ≡ true
+all-met k [] a l z e m = absurd (List·Memᴰ·not-nil m)
+all-met k (x ∷ xs) a l z e m = pick (holds x a) refl (all-met (suc k) xs a (omega arith))
+  where
+    pick : (b : Bool) → holds x a ≡ b → (unmetFrom (suc k) xs a ≡ 0 → (y : Entry) → List·Memᴰ y xs → holds y a ≡ true) → holds e a ≡ true
+    pick true t rest =
+        ⊎-elim (λ s. ap (λ (y : Entry). holds y a) s ∙ t) (λ n. rest (sym (unmet-holds k x xs a t) ∙ z) e n) (List·Memᴰ·cases-cons m)
+    pick false t rest = absurd (omega (arith, sym (unmet-breaks k x xs a t) ∙ z))
+
+module _ (i : Instance) (a : ℕ) where
+  pub feasible-unmet : Feasible i a → firstUnmet (i .rows) a ≡ 0
+  feasible-unmet f = unmet-all 1 (i .rows) a (f .rows-hold)
+
+  pub unmet-feasible : a < 2 ^ i .variables → firstUnmet (i .rows) a ≡ 0 → Feasible i a
+  unmet-feasible b z = record { bits = b; rows-hold = all-met 1 (i .rows) a (omega arith) z }
