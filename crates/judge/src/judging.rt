@@ -38,7 +38,7 @@ fn value_of(terms: &[i32], rows: &[i64], objectives: usize, k: usize, a: u64) ->
         return 0;
     }
     let e = Entry::at(rows, k);
-    sum_of(terms, rows, e.first, e.count, a)
+    sum_of(terms, e.first, e.count, a)
 }
 
 // Judges one assignment of the instance that the tables are: its vector and the first row that it does not meet.

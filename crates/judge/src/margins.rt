@@ -34,7 +34,7 @@ pub fn margin_at(terms: &[i32], rows: &[i64], k: usize, a: u64) -> i64
     ensures { λ r. ⌜ r ≡ margin (entryAt (now (terms .entry)) (now (rows .entry)) k) a ⌝ }
 {
     let e = Entry::at(rows, k);
-    let s = sum_of(terms, rows, e.first, e.count, a);
+    let s = sum_of(terms, e.first, e.count, a);
     margin_of(e.kind, s, e.bound)
 }
 

@@ -2,11 +2,12 @@
 use crate::bits::literal_true;
 use instance::Term;
 ghost use mathlib.Core.Path.{_≡_};
-ghost use Prim.Native.Nat.{_+_, _*_, _<_, _≤_};
+ghost use Prim.Native.Nat.{_+_, _*_, _<_};
 ghost use lib.ListN.{length};
 ghost use Rattle.instance.specs.Terms.{TermOk, termValue, sum};
-ghost use Rattle.instance.specs.Tables.{termAt, termsIn, IsInstance};
+ghost use Rattle.instance.specs.Tables.{termAt};
 ghost use Rattle.instance.specs.Meaning.{termsAt};
+ghost use Rattle.judge.specs.Judging.{Summable};
 
 // Term k's value: its coefficient if its literal is true, else 0.
 pub fn term_value(terms: &[i32], k: usize, a: u64) -> i64
@@ -23,9 +24,8 @@ pub fn term_value(terms: &[i32], k: usize, a: u64) -> i64
 }
 
 // The sum of the `count` terms from `first` on.
-pub fn sum_of(terms: &[i32], rows: &[i64], first: usize, count: usize, a: u64) -> i64
-    requires { ⌜ IsInstance (now terms) (now rows) ⌝ }
-    requires { ⌜ first + count ≤ termsIn (now rows) ⌝ }
+pub fn sum_of(terms: &[i32], first: usize, count: usize, a: u64) -> i64
+    requires { ⌜ Summable (now terms) (first + count) ⌝ }
     ensures { λ r. ⌜ r ≡ sum (termsAt (now (terms .entry)) first count) a ⌝ }
 {
     let mut total: i64 = 0;

@@ -8,6 +8,7 @@ use Rattle.instance.specs.Terms.{Term, sum}
 use Rattle.instance.specs.Tables.{entriesIn}
 use Rattle.instance.proofs.SignedLaws.{result-as}
 use Rattle.instance.proofs.InstanceLaws.{entry-fine, entry-inside, entry-terms}
+use Rattle.judge.proofs.SummableLaws.{entry-summable}
 use Rattle.judge.proofs.VectorLaws.{vector-at, vector-none}
 use Rattle.judge.proofs.judging.value_of.Statement.{statement}
 use Rattle.judge.proofs.judging.value_of.Tie as tie
@@ -24,9 +25,7 @@ at-requires : tie.Need-at-requires
 at-requires c κs = entry-fine (c .before .pre .0) (c .before .args .k) (used c)
 
 sum-of-requires : tie.Need-sum-of-requires
-sum-of-requires c κs =
-    let s = c .before .before in
-    (s .pre .0, omega (arith, c .at .ensures .first, c .at .ensures .count, entry-inside (s .pre .0) (s .args .k) (used (c .before))))
+sum-of-requires c κs = let s = c .before .before in entry-summable (s .pre .0) (s .args .k) (used (c .before)) (c .at .ensures)
 
 returns-2 : tie.Need-returns-2
 returns-2 c =

@@ -13,6 +13,7 @@ use Rattle.instance.specs.Tables.{kindAt, boundAt}
 use Rattle.instance.specs.Meaning.{entryAt}
 use Rattle.instance.proofs.SignedLaws.{result-as, read-as, sfits-abs}
 use Rattle.instance.proofs.InstanceLaws.{entry-fine, entry-inside, entry-terms, entry-sum-bound}
+use Rattle.judge.proofs.SummableLaws.{entry-summable}
 use Rattle.judge.proofs.margins.margin_at.Statement.{statement}
 use Rattle.judge.proofs.margins.margin_at.Tie as tie
 
@@ -20,9 +21,7 @@ at-requires : tie.Need-at-requires
 at-requires c κs = entry-fine (c .pre .0) (c .args .k) (c .pre .1)
 
 sum-of-requires : tie.Need-sum-of-requires
-sum-of-requires c κs =
-    let s = c .before in
-    (s .pre .0, omega (arith, c .at .ensures .first, c .at .ensures .count, entry-inside (s .pre .0) (s .args .k) (s .pre .1)))
+sum-of-requires c κs = let s = c .before in entry-summable (s .pre .0) (s .args .k) (s .pre .1) (c .at .ensures)
 
 -- The sum and the bound, as the entry's meaning has them.
 summed : (c : tie.After-sum-of)
