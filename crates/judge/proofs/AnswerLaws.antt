@@ -5,13 +5,16 @@ use mathlib.Core.Logic.{_↔_}
 use Prim.Native.Nat.{ℕ, _^_, _<_}
 use native.Mathlib.Omega.{arith}
 use lib.IntN.{ℤ, pos}
-use lib.ListN.{getD}
-use Rattle.instance.specs.Tables.{IsInstance}
-use Rattle.instance.specs.Meaning.{meaning, Feasible}
+use lib.ListN.{length, getD, take}
+use Rattle.instance.specs.Tables.{objectivesIn, IsInstance}
+use Rattle.instance.specs.Meaning.{entryAt, meaning, vector, Feasible}
+use Rattle.instance.proofs.ListLaws.{tabulate-length}
+use Rattle.judge.specs.Judging.{padded}
 use Rattle.judge.specs.Answers.{Answer, answerOf, Judges, JudgedAs}
 use Rattle.judge.specs.declared.judging.Judged.{Judged}
 use Rattle.judge.specs.declared.judging.Judged.the-variants.{Done, NotInstance, BitsBeyond}
 use Rattle.judge.specs.declared.judging.Judgement.{Judgement}
+use Rattle.judge.proofs.VectorLaws.{padded-getD, padded-take, vector-length}
 use Rattle.judge.proofs.UnmetLaws.{feasible-unmet, unmet-feasible}
 
 -- ---- Judgement
@@ -46,3 +49,15 @@ module _ (ts rs : List ℤ) (a : ℕ) where
 pub judges-feasible : {ts rs : List ℤ} {a : ℕ} {x : Answer} → Judges ts rs a x → Feasible (meaning ts rs) a ↔ (x .row ≡ 0)
 judges-feasible {ts} {rs} {a} p =
     (λ f. p .row ∙ feasible-unmet (meaning ts rs) a f, λ z. unmet-feasible (meaning ts rs) a (p .bits) (sym (p .row) ∙ z))
+
+-- The value at each of the four places; of `Done j` they are j .first, j .second, j .third, j .fourth.
+pub judges-value : {ts rs : List ℤ} {a : ℕ} {x : Answer} → Judges ts rs a x → (k : ℕ) → k < 4 → getD (x .values) k (pos 0) ≡ getD (vector (meaning ts rs) a) k (pos 0)
+judges-value {ts} {rs} {a} p k h = ap (λ (l : List ℤ). getD l k (pos 0)) (p .values) ∙ padded-getD (vector (meaning ts rs) a) k h
+
+-- The vector itself, as long as there are objectives.
+pub judges-vector : {ts rs : List ℤ} {a : ℕ} {x : Answer} → Judges ts rs a x → take (objectivesIn rs) (x .values) ≡ vector (meaning ts rs) a
+judges-vector {ts} {rs} {a} {x} p =
+    let v = vector (meaning ts rs) a in
+    let l : length v ≡ objectivesIn rs = vector-length (meaning ts rs) a ∙ tabulate-length (entryAt ts rs) 0 (objectivesIn rs) in
+    ap (take (objectivesIn rs)) (p .values)
+    ∙ (ap (λ (n : ℕ). take n (padded v)) (sym l) ∙ padded-take v (omega (arith, p .is .few-objectives)))

@@ -7,7 +7,7 @@ use mir.Syntax.{w64}
 use Rattle.instance.specs.Terms.{Term, sum}
 use Rattle.instance.specs.Tables.{entriesIn}
 use Rattle.instance.proofs.SignedLaws.{result-as}
-use Rattle.instance.proofs.InstanceLaws.{entry-fine, entry-inside, entry-terms}
+use Rattle.instance.proofs.InstanceLaws.{entry-fine, entry-terms}
 use Rattle.judge.proofs.SummableLaws.{entry-summable}
 use Rattle.judge.proofs.VectorLaws.{vector-at, vector-none}
 use Rattle.judge.proofs.judging.value_of.Statement.{statement}
