@@ -1,10 +1,12 @@
 // Bits of an assignment's number: x_i is bit i - 1 (document 01, 'The front').
-use instance::Term;
 use instance::signed::magnitude32;
 ghost use mathlib.Core.Path.{_≡_};
-ghost use Prim.Native.Nat.{_<_, _≤_, _^_};
+ghost use Prim.Native.Nat.{_<_, _^_};
 ghost use Rattle.instance.specs.Terms.{bitSet, IsLit, litTrue};
 ghost use Rattle.instance.specs.Tests.{Decides};
+
+// Bits of the word that holds an assignment.
+const WORD_BITS: u64 = 64;
 
 // Bit j of an assignment.
 pub fn bit(a: u64, j: u64) -> bool
@@ -16,10 +18,9 @@ pub fn bit(a: u64, j: u64) -> bool
 
 // Whether an assignment has no bit from n up.
 pub fn within(a: u64, n: u64) -> bool
-    requires { ⌜ n ≤ 64 ⌝ }
     ensures { λ r. ⌜ Decides r (a < 2 ^ n) ⌝ }
 {
-    if n < Term::MAX_VARIABLE {
+    if n < WORD_BITS {
         return a >> n == 0;
     }
     true

@@ -4,8 +4,8 @@
 // bits::bit, bits::within                     one bit of an assignment's number; whether it has no bit from n up
 //
 // The caller lends the tables; nothing here writes to them.
-// Read specs/Judging.antt (the first unmet row, the four values) and specs/Answers.antt (the contract). A caller needs proofs/JudgeLaws.antt
-// beside them, and none of the code.
+// Read specs/Judging.antt (the first unmet row, the four values) and specs/Answers.antt (the contract). A caller needs
+// proofs/AnswerLaws.antt beside them (VectorLaws, LowBitLaws and UnmetLaws tell more), and none of the code.
 pub mod bits; // bits.rt: bits of an assignment's number
 mod sums; // sums.rt: the value of a term, the sum of terms
 mod margins; // margins.rt: how far a row is from breaking, and the first row that is unmet

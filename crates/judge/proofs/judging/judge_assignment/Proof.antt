@@ -14,7 +14,6 @@ use Rattle.instance.specs.Tests.{Decides}
 use Rattle.instance.proofs.SignedLaws.{result-as}
 use Rattle.instance.proofs.ListLaws.{tabulate-same}
 use Rattle.instance.proofs.TestLaws.{refused, accepted}
-use Rattle.instance.proofs.InstanceLaws.{variables-le}
 use Rattle.judge.specs.Judging.{firstUnmet}
 use Rattle.judge.proofs.VectorLaws.{padded-as}
 use Rattle.judge.proofs.judging.judge_assignment.Statement.{statement}
@@ -46,7 +45,7 @@ returns c =
     subst (CheckedAs (s .args .terms .now) (s .args .rows .now)) (c .enum-told .given .1) (c .before .before .of .ensures)
 
 within-requires : tie.Need-within-requires
-within-requires c κs = omega (arith, sizes (c .before) .variables, variables-le (sizes (c .before) .is))
+within-requires c κs = search needs
 
 returns-2 : tie.Need-returns-2
 returns-2 c = record { is = sizes (c .before .before .before) .is; bits = omega (arith, refused (within (c .before)) (c .if1 .taken)) }
