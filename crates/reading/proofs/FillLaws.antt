@@ -77,7 +77,7 @@ two p q k t a b h =
     ∙ sym (append-assoc p (t .coef ∷ (t .lit ∷ [])) q)
 
 pub stored-all : (us : List Term) (p q : List ℤ) (k : ℕ) → length p ≡ k * 2 → any isWide us ≡ false → any isUnnamed us ≡ false → k + length us ≤ maxTerms → length us * 2 ≤ length q
-  → stored (p ++ q) k us ≡ p ++ (termNumbers us ++ drop (length us * 2) q)
+    → stored (p ++ q) k us ≡ p ++ (termNumbers us ++ drop (length us * 2) q)
 unfolding stored termNumbers any
 stored-all [] p q k h w n m l = refl
 stored-all (u ∷ us) p [] k h w n m l = absurd (omega arith)
@@ -107,7 +107,7 @@ unfolding allTerms
 allTerms-last es e = allTerms-append es (e ∷ []) ∙ ap (λ (ts : List Term). allTerms es ++ ts) (append-nil (e .terms))
 
 pub terms-next : (es : List Entry) (e : Entry) (found : List ℤ) → any isWide (e .terms) ≡ false → any isUnnamed (e .terms) ≡ false → length (allTerms es) + length (e .terms) ≤ maxTerms
-  → stored (termTable es found) (length (allTerms es)) (e .terms) ≡ termTable (es ++ (e ∷ [])) found
+    → stored (termTable es found) (length (allTerms es)) (e .terms) ≡ termTable (es ++ (e ∷ [])) found
 terms-next es e found w n h =
     stored-all (e .terms) xs (replicate (termRoom - length xs) (pos 0) ++ drop termRoom found) (length (allTerms es)) (termNumbers-length (allTerms es)) w n h long
     ∙ ap (λ (l : List ℤ). xs ++ (termNumbers (e .terms) ++ l)) more
@@ -141,7 +141,7 @@ terms-next es e found w n h =
         ∙ ap (λ (l : List ℤ). l ++ drop termRoom found) (drop-replicate (length (e .terms) * 2) (termRoom - length xs) (omega (arith, size)) ∙ ap (λ (m : ℕ). replicate m (pos 0)) left)
 
 pub rows-next : (es : List Entry) (e : Entry) (found : List ℤ) → length es < maxEntries → rowRoom ≤ length found
-  → sets (rowTable es found) (length es * 4) (pos (e .kind) ∷ (pos (length (allTerms es)) ∷ (pos (length (e .terms)) ∷ (e .bound ∷ [])))) ≡ rowTable (es ++ (e ∷ [])) found
+    → sets (rowTable es found) (length es * 4) (pos (e .kind) ∷ (pos (length (allTerms es)) ∷ (pos (length (e .terms)) ∷ (e .bound ∷ [])))) ≡ rowTable (es ++ (e ∷ [])) found
 unfolding entryNumbers
 rows-next es e found h k =
     sets-eq four (rowTable es found) (length es * 4) inside

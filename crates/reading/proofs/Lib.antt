@@ -10,3 +10,4 @@ pub mod MarksLaws
 pub mod VerdictLaws
 pub mod ReadLaws
 pub mod TakeLaws
+pub mod AnswerLaws

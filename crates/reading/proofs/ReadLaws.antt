@@ -70,8 +70,8 @@ pub part-drop : (text : List ℕ) (at : ℕ) → take (length text - at) (drop a
 part-drop text at = take-all (length text - at) (drop at text) (simp length-drop (omega arith))
 
 pub statement-at : (text : List ℕ) (at : ℕ) {base : ℕ} {before after : List ℤ} {s : Statement} {p : Place} → p ≡ placeAt at
-  → StatementIs (take (length text - at) (drop at text)) (marksAt p (take (length text - at) (drop at text))) base before after s
-  → StatementIs (drop at text) (marksAt (placeAt at) (drop at text)) base before after s
+    → StatementIs (take (length text - at) (drop at text)) (marksAt p (take (length text - at) (drop at text))) base before after s
+    → StatementIs (drop at text) (marksAt (placeAt at) (drop at text)) base before after s
 statement-at text at {base} {before} {after} {s} {p} e h =
     subst (λ (q : Place). StatementIs (drop at text) (marksAt q (drop at text)) base before after s) e
     (subst (λ (l : List ℕ). StatementIs l (marksAt p l) base before after s) (part-drop text at) h)
@@ -106,7 +106,7 @@ module _ {text : List ℕ} {found rows now rows′ : List ℤ} {at number object
 
   -- nothing is left: done, or no objective
   pub taking-end : {now′ : List ℤ} → now′ ≡ now → marksAt (placeAt at) (drop at text) ≡ [] → (r : Reading)
-    → (r .number ≡ cond (eqb objectives 0) 9 0) × (r .statement ≡ 0) × (r .variables ≡ top) → ReadIs text found now′ rows rows′ r
+      → (r .number ≡ cond (eqb objectives 0) 9 0) × (r .statement ≡ 0) × (r .variables ≡ top) → ReadIs text found now′ rows rows′ r
   taking-end {now′} e n r h = by (t .os) (t .says ∙ marks-none number (t .os) (t .rs) (marksAt (placeAt at) (drop at text)) n) refl
     where
       numbered : (b : Bool) → eqb objectives 0 ≡ b → r .number ≡ cond b 9 0

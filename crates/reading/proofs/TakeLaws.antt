@@ -33,8 +33,7 @@ use Rattle.reading.proofs.ReadLaws.{Taking, goes}
 use Rattle.reading.proofs.VerdictLaws.{Fine, verdict-zero, added-last, added-objectives, added-rows}
 
 module _ {text : List ℕ} {found rows now rows′ : List ℤ} {at number objectives others total top : ℕ} (t : Taking text found rows now rows′ at number objectives others total top)
-  {now′ : List ℤ} {s : Statement} (e : EntryRead statement (drop at text) (marksAt (placeAt at) (drop at text)) total now now′ s) (v : verdict (t .os) (t .rs) (e .entry) ≡ 0) where
-
+    {now′ : List ℤ} {s : Statement} (e : EntryRead statement (drop at text) (marksAt (placeAt at) (drop at text)) total now now′ s) (v : verdict (t .os) (t .rs) (e .entry) ≡ 0) where
   -- the entries before, and those then
   before : List Entry
   before = t .os ++ t .rs
@@ -82,13 +81,13 @@ module _ {text : List ℕ} {found rows now rows′ : List ℤ} {at number object
   bound-fits = sfits-abs w64 (s .bound) (omega (arith, ap natAbs (e .bound), ltb-false maxBound (natAbs (e .entry .bound)) (fine .bound)))
 
   pub bound-stored : {rows″ : List ℤ} → rows″ ≡ sets rows′ ((objectives + others) * 4) (pos (s .kind) ∷ (pos total ∷ (pos (s .count) ∷ (toZ w64 (ofZ w64 (s .bound)) ∷ []))))
-    → rows″ ≡ sets rows′ ((objectives + others) * 4) (pos (s .kind) ∷ (pos total ∷ (pos (s .count) ∷ (s .bound ∷ []))))
+      → rows″ ≡ sets rows′ ((objectives + others) * 4) (pos (s .kind) ∷ (pos total ∷ (pos (s .count) ∷ (s .bound ∷ []))))
   bound-stored r = r ∙ ap (λ (z : ℤ). sets rows′ ((objectives + others) * 4) (pos (s .kind) ∷ (pos total ∷ (pos (s .count) ∷ (z ∷ []))))) (toZ-ofZ bound-fits)
 
   pub taking-step : rowRoom ≤ length rows → {rows″ : List ℤ} {one top′ : ℕ}
-    → rows″ ≡ sets rows′ ((objectives + others) * 4) (pos (s .kind) ∷ (pos total ∷ (pos (s .count) ∷ (s .bound ∷ []))))
-    → one ≡ cond (eqb (s .kind) 1) 1 0 → top′ ≡ max top (s .top)
-    → Taking text found rows now′ rows″ (at + s .next) (number + 1) (objectives + one) (others + (1 - one)) (total + s .count) top′
+      → rows″ ≡ sets rows′ ((objectives + others) * 4) (pos (s .kind) ∷ (pos total ∷ (pos (s .count) ∷ (s .bound ∷ []))))
+      → one ≡ cond (eqb (s .kind) 1) 1 0 → top′ ≡ max top (s .top)
+      → Taking text found rows now′ rows″ (at + s .next) (number + 1) (objectives + one) (others + (1 - one)) (total + s .count) top′
   unfolding os′ rs′ before
   taking-step room {rows″} {one} {top′} r o m = record {
     os = os′;
@@ -119,7 +118,7 @@ module _ {text : List ℕ} {found rows now rows′ : List ℤ} {at number object
       places = ap₂ _+_ (t .objectives-is) (t .others-is) ∙ sym (length-append (t .os) (t .rs))
 
       row-numbers : sets rows′ ((objectives + others) * 4) (pos (s .kind) ∷ (pos total ∷ (pos (s .count) ∷ (s .bound ∷ []))))
-        ≡ sets (rowTable before rows) (length before * 4) (pos (e .entry .kind) ∷ (pos (length (allTerms before)) ∷ (pos (length (e .entry .terms)) ∷ (e .entry .bound ∷ []))))
+          ≡ sets (rowTable before rows) (length before * 4) (pos (e .entry .kind) ∷ (pos (length (allTerms before)) ∷ (pos (length (e .entry .terms)) ∷ (e .entry .bound ∷ []))))
       row-numbers =
           ap₂ (λ (l : List ℤ) (n : ℕ). sets l (n * 4) (pos (s .kind) ∷ (pos total ∷ (pos (s .count) ∷ (s .bound ∷ []))))) (t .rows-left) places
           ∙ ap₂ (λ (a b : ℕ). sets (rowTable before rows) (length before * 4) (pos a ∷ (pos b ∷ (pos (s .count) ∷ (s .bound ∷ []))))) (e .kind) (t .total-is)

@@ -20,9 +20,9 @@ use Rattle.reading.specs.Outcomes.{lateBy, fullBy, verdictBy}
 
 -- the verdict by what the code knows
 pub verdict-as : (os rs : List Entry) (e : Entry) {kind objectives others total count : ℕ} {wide unnamed : Bool}
-  → kind ≡ e .kind → objectives ≡ length os → others ≡ length rs → total ≡ length (allTerms (os ++ rs)) → count ≡ length (e .terms)
-  → wide ≡ any isWide (e .terms) || ltb maxBound (natAbs (e .bound)) → unnamed ≡ any isUnnamed (e .terms)
-  → verdictBy (lateBy kind others) (fullBy kind objectives others) wide unnamed (total + count) ≡ verdict os rs e
+    → kind ≡ e .kind → objectives ≡ length os → others ≡ length rs → total ≡ length (allTerms (os ++ rs)) → count ≡ length (e .terms)
+    → wide ≡ any isWide (e .terms) || ltb maxBound (natAbs (e .bound)) → unnamed ≡ any isUnnamed (e .terms)
+    → verdictBy (lateBy kind others) (fullBy kind objectives others) wide unnamed (total + count) ≡ verdict os rs e
 verdict-as os rs e {kind} {objectives} {others} {total} {count} {wide} {unnamed} k o r t c w u =
     ap₂ (λ (a b : Bool). verdictBy a b wide unnamed (total + count)) (ap₂ lateBy k r) (ap₂ (λ (a b : ℕ). fullBy a b others) k o ∙ ap (fullBy (e .kind) (length os)) r)
     ∙ ap₂ (λ (a b : Bool). verdictBy (lateBy (e .kind) (length rs)) (fullBy (e .kind) (length os) (length rs)) a b (total + count)) w u

@@ -4,4 +4,6 @@ pub mod terms; // terms.rt: a run of terms
 pub mod statements; // statements.rt: one statement
 pub mod texts; // texts.rt: a whole text
 
-pub use texts::{Text, TextRead, read_text};
+pub use texts::Text;
+pub use texts::TextRead;
+pub use texts::read_text;

@@ -1,9 +1,12 @@
 // A whole text: its statements in turn, and what is left in both tables.
-use crate::cells::{clear_rows, clear_terms, higher, store_entry};
-use crate::statements::{Statement, read_statement};
+use crate::cells::clear_rows;
+use crate::cells::clear_terms;
+use crate::cells::higher;
+use crate::cells::store_entry;
+use crate::statements::Statement;
+use crate::statements::read_statement;
 use instance::Instance;
 use words::Place;
-
 ghost use mathlib.Core.Path.{_≡_};
 ghost use mathlib.Core.Bool.{cond};
 ghost use mathlib.Core.List.{[]};
@@ -18,16 +21,16 @@ ghost use Rattle.reading.specs.Answers.{refusalOf, readAnswer, readTerms
 
 // What reading a text answers.
 pub enum TextRead {
-    Done(u64),          // n
-    ShortTable,         // 1: a lent table too short for reading text
-    LongText,           // 2: text too long
-    Grammar(u64),       // 3: the statement breaks the grammar
+    Done(u64), // n
+    ShortTable, // 1: a lent table too short for reading text
+    LongText, // 2: text too long
+    Grammar(u64), // 3: the statement breaks the grammar
     LateObjective(u64), // 4: `min:` after a row
-    TooMany(u64),       // 5: fifth objective or 257th row
-    OutOfRange(u64),    // 6: coefficient or bound out of range
-    NoVariable(u64),    // 7: variable 0 or above 64
-    TooManyTerms(u64),  // 8: term total above 4,096
-    NoObjective,        // 9: no objective
+    TooMany(u64), // 5: fifth objective or 257th row
+    OutOfRange(u64), // 6: coefficient or bound out of range
+    NoVariable(u64), // 7: variable 0 or above 64
+    TooManyTerms(u64), // 8: term total above 4,096
+    NoObjective, // 9: no objective
 }
 
 // An instance text.
@@ -49,11 +52,17 @@ pub struct Reading {
 
 impl Reading {
     pub const GRAMMAR: u64 = 3;
+
     pub const LATE_OBJECTIVE: u64 = 4;
+
     pub const TOO_MANY: u64 = 5;
+
     pub const OUT_OF_RANGE: u64 = 6;
+
     pub const NO_VARIABLE: u64 = 7;
+
     pub const TOO_MANY_TERMS: u64 = 8;
+
     pub const NO_OBJECTIVE: u64 = 9;
 }
 
