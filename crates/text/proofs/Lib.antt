@@ -1,0 +1,3 @@
+-- The round trip of instance text. RoundTripLaws is for readers; the others lead to it.
+pub mod WordLaws
+pub mod MarkLaws
