@@ -1,3 +1,4 @@
 -- The round trip of instance text. RoundTripLaws is for readers; the others lead to it.
 pub mod WordLaws
 pub mod MarkLaws
+pub mod StatementLaws

@@ -69,6 +69,10 @@ relation-word k = by (eqb k 2) (eqb k 3)
     by false true = record { some-byte = omega arith; plain = refl }
     by false false = record { some-byte = omega arith; plain = refl }
 
+pub min-word : IsWord (109 ∷ (105 ∷ (110 ∷ (58 ∷ []))))
+unfolding allPlain
+min-word = record { some-byte = omega arith; plain = refl }
+
 -- ---- marksAt
 
 module _ (rest : List ℕ) where
