@@ -2,3 +2,4 @@
 pub mod WordLaws
 pub mod MarkLaws
 pub mod StatementLaws
+pub mod HeldLaws
