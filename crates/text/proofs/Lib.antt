@@ -3,3 +3,4 @@ pub mod WordLaws
 pub mod MarkLaws
 pub mod StatementLaws
 pub mod HeldLaws
+pub mod VerdictLaws
