@@ -4,3 +4,4 @@ pub mod MarkLaws
 pub mod StatementLaws
 pub mod HeldLaws
 pub mod VerdictLaws
+pub mod WriteReadLaws
