@@ -2,6 +2,8 @@
 pub mod WordLaws
 pub mod MarkLaws
 pub mod StatementLaws
+pub mod KindLaws
 pub mod HeldLaws
 pub mod VerdictLaws
 pub mod WriteReadLaws
+pub mod ReadWithinLaws

@@ -2,7 +2,7 @@
 use mathlib.Core.Path.{_≡_, refl, sym, ap, ap₂, _∙_, subst}
 use mathlib.Core.Bool.{Bool, true, false, not, cond, _&&_, _||_}
 use mathlib.Core.List.{List, [], _∷_, _++_, List·Memᴰ, List·Memᴰ·head, List·Memᴰ·tail, List·Memᴰ·not-nil, List·Memᴰ·cases-cons, Memᴰ·append-right}
-use mathlib.Core.Logic.{_⊎_, inl, inr, ⊎-elim}
+use mathlib.Core.Logic.{inl, inr, ⊎-elim}
 use Prim.Native.Nat.{ℕ, zero, suc, _+_, _≤_}
 use native.Mathlib.Omega.{arith}
 use borrow.Author.Tests.{le-ltb, lt-leb, ltb-false, leb-false, eq-eqb, ne-eqb, eqb-false}
@@ -16,6 +16,7 @@ use Rattle.instance.specs.Rows.{Entry}
 use Rattle.instance.specs.Layout.{allTerms, ObjectiveOk, RowOk}
 use Rattle.reading.specs.Reading.{any, isWide, isUnnamed, isFirst, isFull, verdict, addTo}
 use Rattle.text.proofs.StatementLaws.{TermsOk}
+use Rattle.text.proofs.KindLaws.{Kinded}
 use Rattle.text.proofs.HeldLaws.{size, Held, size-append, size-cons, size-none, held-objective, held-row}
 
 -- ---- tests
@@ -142,10 +143,6 @@ row-passes {os} done todo e h =
     }
 
 -- ---- an entry that passes is held with those before it
-
--- What the grammar says of an entry: an objective with bound 0, or one of three relations.
-abbrev pub Kinded : Entry → Type 0
-Kinded e = ObjectiveOk e ⊎ ((2 ≤ e .kind) × (e .kind ≤ 4))
 
 pub passes-held : {os rs : List Entry} {e : Entry} → Held os rs → Kinded e → Passed os rs e → Held (addTo (isFirst e) os e) (addTo (not (isFirst e)) rs e)
 passes-held {os} {rs} {e} h (inl o) p =
