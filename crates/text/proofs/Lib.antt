@@ -7,3 +7,4 @@ pub mod HeldLaws
 pub mod VerdictLaws
 pub mod WriteReadLaws
 pub mod ReadWithinLaws
+pub mod RoundTripLaws
