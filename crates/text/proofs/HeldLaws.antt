@@ -6,7 +6,7 @@ use Prim.Native.Nat.{ℕ, _+_, _≤_}
 use native.Mathlib.Omega.{arith}
 use lib.ListN.{length, length-append}
 use Rattle.instance.specs.Limits.{maxObjectives, maxRows, maxTerms}
-use Rattle.instance.specs.Terms.{Term, TermOk}
+use Rattle.instance.specs.Terms.{Term}
 use Rattle.instance.specs.Rows.{Entry}
 use Rattle.instance.specs.Meaning.{Instance, entries}
 use Rattle.instance.specs.Layout.{allTerms, ObjectiveOk, RowOk, Within}

@@ -1,4 +1,6 @@
--- The round trip of instance text. RoundTripLaws is for readers; the others lead to it.
+-- The round trip of instance text. RoundTripLaws is for readers; WriteReadLaws and ReadWithinLaws are its two halves.
+-- WordLaws, MarkLaws, StatementLaws: words, marks and statements that are written, read again
+-- KindLaws, HeldLaws, VerdictLaws: entries that the grammar says, that tables can hold, that pass the tests of reading
 pub mod WordLaws
 pub mod MarkLaws
 pub mod StatementLaws

@@ -1,20 +1,20 @@
 -- The marks of bytes that are written: a word and a space, a `;` and its line end. Assumes nothing.
-use mathlib.Core.Path.{_≡_, refl, sym, ap, _∙_}
-use mathlib.Core.Bool.{Bool, true, false, not, cond, _&&_, _||_}
+use mathlib.Core.Path.{_≡_, refl, ap, _∙_}
+use mathlib.Core.Bool.{Bool, true, false, not, cond, _&&_}
 use mathlib.Core.List.{List, [], _∷_, _++_}
 use Prim.Native.Nat.{ℕ, suc, _≤_}
 use native.Mathlib.Omega.{arith}
 use borrow.Author.Tests.{ne-eqb}
 use lib.Dec.{eqb}
-use lib.IntN.{ℤ, pos, negsuc, natAbs}
+use lib.IntN.{ℤ, pos, negsuc}
 use lib.ListN.{length, getD}
-use Rattle.decimal.specs.Decimal.{decimal, integer, signByte, signed, isDigit, allDigits}
+use Rattle.decimal.specs.Decimal.{decimal, integer, signed, isDigit, allDigits}
 use Rattle.decimal.proofs.NumeralLaws.{and-left, and-right, and-both, isDigit-from, isDigit-to}
 use Rattle.decimal.proofs.DecimalLaws.{decimal-digits, decimal-some}
 use Rattle.words.specs.declared.Place.{Place}
 use Rattle.words.specs.declared.Place.the-variants.{Inside, Start, Comment}
-use Rattle.words.specs.Bytes.{isBlank, isPlain, keep, placeAfter, uncommented}
-use Rattle.words.specs.Tokens.{Mark, word, stop, Scan, ended, shown, put, scan, marksOf, marksAt}
+use Rattle.words.specs.Bytes.{isPlain, keep, placeAfter, uncommented}
+use Rattle.words.specs.Tokens.{Mark, word, stop, ended, shown, put, scan, marksOf, marksAt}
 use Rattle.words.proofs.ByteLaws.{plain-blank, plain-stop, not-blank-after}
 use Rattle.writing.specs.Writing.{literalText, relationText}
 

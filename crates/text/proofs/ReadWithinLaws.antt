@@ -34,7 +34,7 @@ go-held zero s more h = h refl
 go-held (suc k) s more h = tt
 
 take-held : (o : Option Entry) (s : ℕ) (os rs : List Entry) (more : List Entry → List Entry → Outcome) → SomeKinded o → Held os rs
-  → ((os′ rs′ : List Entry) → Held os′ rs′ → HeldOutcome (more os′ rs′)) → HeldOutcome (takeOne o s os rs more)
+    → ((os′ rs′ : List Entry) → Held os′ rs′ → HeldOutcome (more os′ rs′)) → HeldOutcome (takeOne o s os rs more)
 take-held none s os rs more k h next = tt
 take-held (some e) s os rs more k h next =
     go-held (verdict os rs e) s (more (addTo (isFirst e) os e) (addTo (not (isFirst e)) rs e))

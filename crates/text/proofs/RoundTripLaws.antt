@@ -1,12 +1,12 @@
 -- The round trip of instance text, both ways. Assumes nothing.
-use mathlib.Core.Path.{_≡_, refl, sym, ap, _∙_}
+use mathlib.Core.Path.{_≡_, sym, ap, _∙_}
 use mathlib.Core.List.{List, _++_, append-assoc}
 use Prim.Native.Nat.{ℕ, _-_, _≤_}
 use native.Mathlib.Omega.{arith}
 use lib.IntN.{ℤ, pos}
 use lib.ListN.{length, take, drop, replicate, length-append, length-replicate}
 use lib.Seq.{take-at}
-use Rattle.instance.specs.Limits.{termRoom, rowRoom, maxTerms}
+use Rattle.instance.specs.Limits.{termRoom, rowRoom}
 use Rattle.instance.specs.Rows.{Entry}
 use Rattle.instance.specs.Tables.{IsInstance}
 use Rattle.instance.specs.Meaning.{Instance, entries, meaning}

@@ -1,18 +1,21 @@
 -- A statement that is written says the entry that it was written from. Assumes nothing.
+--
+-- Each term is written as two words with a space after each, and they are read as the term (WordLaws, MarkLaws); so from the marks of
+-- all terms reading comes to what stands after them. For an objective that is the `;`. For a row it is a relation, a bound and the `;`;
+-- its first word is a relation or begins with a sign, so it is not `min:`, and no statement begins with `*`, so no line is a comment.
 use mathlib.Core.Path.{_≡_, refl, sym, ap, ap₂, _∙_, subst}
 use mathlib.Core.Bool.{Bool, true, false, cond}
 use mathlib.Core.List.{List, [], _∷_, _++_, append-assoc, List·Memᴰ, List·Memᴰ·head, List·Memᴰ·tail}
-use mathlib.Core.Option.{Option, none, some}
+use mathlib.Core.Option.{Option, some}
 use Prim.Native.Nat.{ℕ, _^_, _≤_, _<_}
 use native.Mathlib.Omega.{arith}
-use borrow.Author.Tests.{eq-eqb, ne-eqb}
 use lib.Dec.{eqb}
 use lib.IntN.{ℤ, pos, negsuc, natAbs}
 use lib.ListN.{getD}
 use Rattle.decimal.specs.Decimal.{integer, signByte, signed, maxDigits}
 use Rattle.words.specs.declared.Place.the-variants.{Inside, Start}
 use Rattle.words.specs.Tokens.{Mark, word, stop, marksAt}
-use Rattle.words.specs.Numbers.{number, relation, isMin}
+use Rattle.words.specs.Numbers.{relation, isMin}
 use Rattle.instance.specs.Terms.{Term, TermOk}
 use Rattle.instance.specs.Rows.{Entry}
 use Rattle.instance.specs.Layout.{ObjectiveOk, RowOk}
@@ -20,7 +23,7 @@ use Rattle.reading.specs.Grammar.{Words, objective, row, rowEnd, statement}
 use Rattle.reading.specs.Steps.{firstWords, isClosed, restAfter, addTerms, Reached}
 use Rattle.reading.proofs.ParseLaws.{reached-none, reached-term, reached-then}
 use Rattle.reading.proofs.StatementLaws.{adds-last, row-bound}
-use Rattle.writing.specs.Writing.{literalText, termText, termsText, relationText, headText, boundText, statementText}
+use Rattle.writing.specs.Writing.{literalText, termText, termsText, relationText, statementText}
 use Rattle.writing.proofs.TextLaws.{head-objective, head-row, bound-objective, bound-row}
 use Rattle.text.proofs.WordLaws.{number-signed, number-integer, literal-text, relation-signed, relation-text, min-signed, min-relation}
 use Rattle.text.proofs.MarkLaws.{signed-word, integer-word, literal-word, relation-word, min-word, marks-word, marks-stop, marks-line}
@@ -43,7 +46,7 @@ term-reached : (t : Term) (more : List ℕ) → TermOk t → Reached (t ∷ []) 
 term-reached t more h =
     subst (λ (ms : List Mark). Reached (t ∷ []) ms (marksAt Inside more)) (sym (marks-term t more))
     (reached-term (signed (t .coef)) (literalText (t .lit)) (marksAt Inside more) (t .coef) (t .lit)
-      (relation-signed (t .coef)) (number-signed (t .coef) (omega (arith, h .small))) (literal-text (t .lit) (omega (arith, h .named .high))))
+    (relation-signed (t .coef)) (number-signed (t .coef) (omega (arith, h .small))) (literal-text (t .lit) (omega (arith, h .named .high))))
 
 -- from terms that are written the marks lead to what stands after them
 terms-reached : (ts : List Term) (more : List ℕ) → TermsOk ts → Reached ts (marksAt Inside (termsText ts ++ more)) (marksAt Inside more)
@@ -66,22 +69,23 @@ entryOf kind terms bound = record { kind = kind; terms = terms; bound = bound }
 
 -- ---- an objective
 
+-- `min:`
 abbrev minBytes : List ℕ
 minBytes = 109 ∷ (105 ∷ (110 ∷ (58 ∷ [])))
 
-objective-bytes : (e : Entry) (rest : List ℕ) → e .kind ≡ 1 → statementText e ++ rest ≡ 109 ∷ (105 ∷ (110 ∷ (58 ∷ (32 ∷ (termsText (e .terms) ++ (59 ∷ (10 ∷ rest)))))))
+objective-bytes : (e : Entry) (rest : List ℕ) → e .kind ≡ 1 → statementText e ++ rest ≡ minBytes ++ (32 ∷ (termsText (e .terms) ++ (59 ∷ (10 ∷ rest))))
 objective-bytes e rest k =
     ap₂ (λ (a b : List ℕ). (a ++ (termsText (e .terms) ++ (b ++ (59 ∷ (10 ∷ []))))) ++ rest) (sym (head-objective k)) (sym (bound-objective (e .bound) k))
-    ∙ ap (λ (bs : List ℕ). 109 ∷ (105 ∷ (110 ∷ (58 ∷ (32 ∷ bs))))) (append-assoc (termsText (e .terms)) (59 ∷ (10 ∷ [])) rest)
+    ∙ ap (λ (bs : List ℕ). minBytes ++ (32 ∷ bs)) (append-assoc (termsText (e .terms)) (59 ∷ (10 ∷ [])) rest)
 
-objective-marks : (ts : List Term) (rest : List ℕ) → marksAt Start (109 ∷ (105 ∷ (110 ∷ (58 ∷ (32 ∷ (termsText ts ++ (59 ∷ (10 ∷ rest))))))))
-  ≡ word minBytes ∷ marksAt Inside (termsText ts ++ (59 ∷ (10 ∷ rest)))
+objective-marks : (ts : List Term) (rest : List ℕ) → marksAt Start (minBytes ++ (32 ∷ (termsText ts ++ (59 ∷ (10 ∷ rest)))))
+    ≡ word minBytes ∷ marksAt Inside (termsText ts ++ (59 ∷ (10 ∷ rest)))
 objective-marks ts rest =
-    marks-line (109 ∷ (105 ∷ (110 ∷ (58 ∷ (32 ∷ (termsText ts ++ (59 ∷ (10 ∷ rest)))))))) (λ e. omega arith)
+    marks-line (minBytes ++ (32 ∷ (termsText ts ++ (59 ∷ (10 ∷ rest))))) (λ e. omega arith)
     ∙ marks-word min-word (termsText ts ++ (59 ∷ (10 ∷ rest)))
 
 objective-says : (ts : List Term) (rest : List ℕ) → TermsOk ts
-  → Says (word minBytes ∷ marksAt Inside (termsText ts ++ (59 ∷ (10 ∷ rest)))) (entryOf 1 ts (pos 0)) (marksAt Start rest)
+    → Says (word minBytes ∷ marksAt Inside (termsText ts ++ (59 ∷ (10 ∷ rest)))) (entryOf 1 ts (pos 0)) (marksAt Start rest)
 unfolding firstWords isClosed restAfter objective
 objective-says ts rest h =
     let r = terms-reached ts (59 ∷ (10 ∷ rest)) h in record {
@@ -94,8 +98,8 @@ pub statement-objective : (e : Entry) (rest : List ℕ) → ObjectiveOk e → Te
 statement-objective e rest o h =
     subst (λ (ms : List Mark). Says ms e (marksAt Start rest)) (sym (ap (marksAt Start) (objective-bytes e rest (o .kind)) ∙ objective-marks (e .terms) rest))
     (subst (λ (d : Entry). Says (word minBytes ∷ marksAt Inside (termsText (e .terms) ++ (59 ∷ (10 ∷ rest)))) d (marksAt Start rest))
-      (ap₂ (λ (k : ℕ) (b : ℤ). entryOf k (e .terms) b) (sym (o .kind)) (sym (o .bound)))
-      (objective-says (e .terms) rest h))
+    (ap₂ (λ (k : ℕ) (b : ℤ). entryOf k (e .terms) b) (sym (o .kind)) (sym (o .bound)))
+    (objective-says (e .terms) rest h))
 
 -- ---- a row
 
@@ -121,8 +125,9 @@ relation-line kind bs = by (eqb kind 2) (eqb kind 3)
     by false true e = omega arith
     by false false e = omega arith
 
-statement-row : (w : List ℕ) (ws : Words) → isMin w ≡ false → statement (w ∷ ws) ≡ row (w ∷ ws)
-statement-row w ws h = ap (λ (t : Bool). cond t (objective ws) (row (w ∷ ws))) h
+-- a first word that is not `min:` begins a row
+not-min : (w : List ℕ) (ws : Words) → isMin w ≡ false → statement (w ∷ ws) ≡ row (w ∷ ws)
+not-min w ws h = ap (λ (t : Bool). cond t (objective ws) (row (w ∷ ws))) h
 
 module _ (kind : ℕ) (bound : ℤ) (rest : List ℕ) where
   -- a row begins with a sign or a relation, so not with `*`
@@ -142,7 +147,7 @@ module _ (kind : ℕ) (bound : ℤ) (rest : List ℕ) where
   unfolding termsText firstWords
   row-first [] =
       ap (λ (ms : List Mark). statement (firstWords ms)) end-marks
-      ∙ statement-row (relationText kind) (integer bound ∷ []) (min-relation kind)
+      ∙ not-min (relationText kind) (integer bound ∷ []) (min-relation kind)
       ∙ sym (ap (λ (ms : List Mark). row (firstWords ms)) end-marks)
   row-first (t ∷ ts) =
       let more = termsText ts ++ endBytes kind bound rest in
@@ -150,7 +155,7 @@ module _ (kind : ℕ) (bound : ℤ) (rest : List ℕ) where
       ap (marksAt Inside) (append-assoc (termText t) (termsText ts) (endBytes kind bound rest)) ∙ marks-term t more
       in
       ap (λ (ms : List Mark). statement (firstWords ms)) e
-      ∙ statement-row (signed (t .coef)) (literalText (t .lit) ∷ firstWords (marksAt Inside more)) (min-signed (t .coef))
+      ∙ not-min (signed (t .coef)) (literalText (t .lit) ∷ firstWords (marksAt Inside more)) (min-signed (t .coef))
       ∙ sym (ap (λ (ms : List Mark). row (firstWords ms)) e)
 
   module _ (low : 2 ≤ kind) (high : kind ≤ 4) (small : natAbs bound < 10 ^ maxDigits) where
@@ -168,8 +173,8 @@ module _ (kind : ℕ) (bound : ℤ) (rest : List ℕ) where
           after = r .rest-as ∙ ap restAfter end-marks;
         }
 
-pub statement-row-says : (e : Entry) (rest : List ℕ) → RowOk e → TermsOk (e .terms) → Says (marksAt Start (statementText e ++ rest)) e (marksAt Start rest)
-statement-row-says e rest o h =
+pub statement-row : (e : Entry) (rest : List ℕ) → RowOk e → TermsOk (e .terms) → Says (marksAt Start (statementText e ++ rest)) e (marksAt Start rest)
+statement-row e rest o h =
     subst (λ (ms : List Mark). Says ms e (marksAt Start rest))
     (sym (ap (marksAt Start) (row-bytes e rest (o .kind-low)) ∙ marks-line (termsText (e .terms) ++ endBytes (e .kind) (e .bound) rest) (row-line (e .kind) (e .bound) rest (e .terms))))
     (row-says (e .kind) (e .bound) rest (o .kind-low) (o .kind-high) (omega (arith, o .bound)) (e .terms) h)

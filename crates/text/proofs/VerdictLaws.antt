@@ -11,9 +11,9 @@ use lib.IntN.{natAbs}
 use lib.ListN.{length, length-append}
 use Rattle.words.proofs.ByteLaws.{clash}
 use Rattle.instance.specs.Limits.{maxObjectives, maxRows, maxTerms, maxVariable, maxCoef, maxBound}
-use Rattle.instance.specs.Terms.{Term, TermOk}
+use Rattle.instance.specs.Terms.{Term}
 use Rattle.instance.specs.Rows.{Entry}
-use Rattle.instance.specs.Layout.{allTerms, ObjectiveOk, RowOk}
+use Rattle.instance.specs.Layout.{ObjectiveOk, RowOk}
 use Rattle.reading.specs.Reading.{any, isWide, isUnnamed, isFirst, isFull, verdict, addTo}
 use Rattle.text.proofs.StatementLaws.{TermsOk}
 use Rattle.text.proofs.KindLaws.{Kinded}
@@ -148,9 +148,9 @@ pub passes-held : {os rs : List Entry} {e : Entry} → Held os rs → Kinded e �
 passes-held {os} {rs} {e} h (inl o) p =
     subst (λ (t : Bool). Held (addTo t os e) (addTo (not t) rs e)) (sym (first-yes o))
     (held-objective h e (p .terms) (omega (arith, p .total, size-append os rs)) o
-      (omega (arith, leb-false maxObjectives (length os) (sym (ap (λ (t : Bool). cond t (leb maxObjectives (length os)) (leb maxRows (length rs))) (first-yes o)) ∙ p .room))))
+    (omega (arith, leb-false maxObjectives (length os) (sym (ap (λ (t : Bool). cond t (leb maxObjectives (length os)) (leb maxRows (length rs))) (first-yes o)) ∙ p .room))))
 passes-held {os} {rs} {e} h (inr k) p =
     let f : isFirst e ≡ false = first-no e (k .0) in
     subst (λ (t : Bool). Held (addTo t os e) (addTo (not t) rs e)) (sym f)
     (held-row h e (p .terms) (omega (arith, p .total, size-append os rs)) (record { kind-low = k .0; kind-high = k .1; bound = p .bound })
-      (omega (arith, leb-false maxRows (length rs) (sym (ap (λ (t : Bool). cond t (leb maxObjectives (length os)) (leb maxRows (length rs))) f) ∙ p .room))))
+    (omega (arith, leb-false maxRows (length rs) (sym (ap (λ (t : Bool). cond t (leb maxObjectives (length os)) (leb maxRows (length rs))) f) ∙ p .room))))
