@@ -111,8 +111,8 @@ clear-rows-end rs i e = ap (λ (k : ℕ). replicate k (pos 0) ++ drop k rs) e
 
 -- four numbers stored one after the other
 pub entry-sets : (rs : List ℤ) (k kind first count : ℕ) (bound : ℤ) → kind < 2 ^ 63 → first < 2 ^ 63 → count < 2 ^ 63 → SFits w64 bound
-  → set (set (set (set rs (k * 4) (toZ w64 kind)) (k * 4 + 1) (toZ w64 first)) (k * 4 + 2) (toZ w64 count)) (k * 4 + 3) (toZ w64 (ofZ w64 bound))
-  ≡ sets rs (k * 4) (pos kind ∷ (pos first ∷ (pos count ∷ (bound ∷ []))))
+    → set (set (set (set rs (k * 4) (toZ w64 kind)) (k * 4 + 1) (toZ w64 first)) (k * 4 + 2) (toZ w64 count)) (k * 4 + 3) (toZ w64 (ofZ w64 bound))
+    ≡ sets rs (k * 4) (pos kind ∷ (pos first ∷ (pos count ∷ (bound ∷ []))))
 entry-sets rs k kind first count bound h i j f =
     simp (bits-value w64 kind h, bits-value w64 first i, bits-value w64 count j, toZ-ofZ f, towards-suc)
 

@@ -74,9 +74,9 @@ module _ {text : List ℕ} {first base : ℕ} {before after : List ℤ} {r : Run
         (λ k. open-none (run .reached .closed-as ∙ ap isClosed (token-none stops k)) c)
         (λ k. absurd (n k))
         (λ k. run .reached .objective-as
-            ∙ ap (addTerms (run .terms)) (ap (λ (m : List Mark). objective (firstWords m)) (token-word stops k)
-                ∙ objective-relation (part text (r .stop .start) (r .stop .end)) (firstWords (marksAt Inside (drop (r .stop .end) text))) (run .stops .relation-some k))
-            ∙ adds-none (run .terms))
+        ∙ ap (addTerms (run .terms)) (ap (λ (m : List Mark). objective (firstWords m)) (token-word stops k)
+        ∙ objective-relation (part text (r .stop .start) (r .stop .end)) (firstWords (marksAt Inside (drop (r .stop .end) text))) (run .stops .relation-some k))
+        ∙ adds-none (run .terms))
 
     pub objective-open : (r .stop .kind ≡ 1 → ⊥) → (s : Statement) → s .kind ≡ 5 → Closing objective text (marksAt Inside (drop first text)) base before after s
     objective-open n s k = record {
@@ -87,7 +87,7 @@ module _ {text : List ℕ} {first base : ℕ} {before after : List ℤ} {r : Run
     }
 
     pub objective-done : r .stop .kind ≡ 1
-      → Closing objective text (marksAt Inside (drop first text)) base before after (record { kind = 1; count = r .count; bound = pos 0; wide = r .wide; unnamed = r .unnamed; top = r .top; next = r .stop .end })
+        → Closing objective text (marksAt Inside (drop first text)) base before after (record { kind = 1; count = r .count; bound = pos 0; wide = r .wide; unnamed = r .unnamed; top = r .top; next = r .stop .end })
     unfolding firstWords isClosed restAfter objective
     objective-done k = record {
       kept = e .kept;
@@ -99,7 +99,9 @@ module _ {text : List ℕ} {first base : ℕ} {before after : List ℤ} {r : Run
         closed = run .reached .closed-as ∙ ap isClosed (token-stop stops k);
         rest = run .reached .rest-as ∙ ap restAfter (token-stop stops k);
         kind = refl;
+        kind-most = omega arith;
         count = run .count;
+        few = run .few;
         bound = refl;
         wide = run .wide ∙ or-none (any isWide (run .terms));
         unnamed = run .unnamed;
@@ -142,14 +144,14 @@ module _ {text : List ℕ} {first base : ℕ} {before after : List ℤ} {r : Run
         kind-some = λ y. omega arith;
         broken = λ _ c. run .reached .row-as
             ∙ ap (addTerms (run .terms)) (ap (λ (m : List Mark). row (firstWords m)) marks-here
-                ∙ q .no-bound z (sym (run .reached .closed-as ∙ ap isClosed marks-here) ∙ c) (part text (r .stop .start) (r .stop .end)) relation-some)
+            ∙ q .no-bound z (sym (run .reached .closed-as ∙ ap isClosed marks-here) ∙ c) (part text (r .stop .start) (r .stop .end)) relation-some)
             ∙ adds-none (run .terms);
         entry-read = λ m. absurd (m j);
       }
 
       pub row-done : {b : Bound} → IsBound text (r .stop .end) b → {kind : ℕ} {bound : ℤ} {wide : Bool}
-        → kind ≡ relation (part text (r .stop .start) (r .stop .end)) → bound ≡ value (b .value) → wide ≡ r .wide || ltb maxBound (b .value .size)
-        → Closing row text (marksAt Inside (drop first text)) base before after (record { kind = kind; count = r .count; bound = bound; wide = wide; unnamed = r .unnamed; top = r .top; next = b .next })
+          → kind ≡ relation (part text (r .stop .start) (r .stop .end)) → bound ≡ value (b .value) → wide ≡ r .wide || ltb maxBound (b .value .size)
+          → Closing row text (marksAt Inside (drop first text)) base before after (record { kind = kind; count = r .count; bound = bound; wide = wide; unnamed = r .unnamed; top = r .top; next = b .next })
       unfolding firstWords isClosed restAfter
       row-done {b} q {kind} {bound} {wide} f g h = record {
         kept = e .kept;
@@ -159,13 +161,15 @@ module _ {text : List ℕ} {first base : ℕ} {before after : List ℤ} {r : Run
           entry = record { kind = relation (part text (r .stop .start) (r .stop .end)); terms = run .terms; bound = value (b .value) };
           parsed = run .reached .row-as
               ∙ ap (addTerms (run .terms)) (ap (λ (m : List Mark). row (firstWords m)) all
-                  ∙ row-bound (part text (r .stop .start) (r .stop .end)) (q .bound-word) [] relation-some
-                  ∙ ap (λ (z : Option ℤ). rowEnd (relation (part text (r .stop .start) (r .stop .end))) z []) (q .says))
+              ∙ row-bound (part text (r .stop .start) (r .stop .end)) (q .bound-word) [] relation-some
+              ∙ ap (λ (z : Option ℤ). rowEnd (relation (part text (r .stop .start) (r .stop .end))) z []) (q .says))
               ∙ adds-last (run .terms) (relation (part text (r .stop .start) (r .stop .end))) (value (b .value));
           closed = run .reached .closed-as ∙ ap isClosed all;
           rest = run .reached .rest-as ∙ ap restAfter all;
           kind = f;
+          kind-most = omega (arith, f, relation-le (part text (r .stop .start) (r .stop .end)));
           count = run .count;
+          few = run .few;
           bound = g;
           wide = h ∙ ap₂ (λ (x : Bool) (n : ℕ). x || ltb maxBound n) (run .wide) (sym (value-abs (b .value)));
           unnamed = run .unnamed;
@@ -189,7 +193,7 @@ statement-row w ws h = ap (λ (b : Bool). cond b (objective ws) (row (w ∷ ws))
 
 -- the words of a statement, read in another way or from marks that are the same
 closing-as : {parse parse′ : Words → Option Entry} {text : List ℕ} {ms ms′ : List Mark} {base : ℕ} {before after : List ℤ} {s : Statement}
-  → parse′ (firstWords ms′) ≡ parse (firstWords ms) → isClosed ms′ ≡ isClosed ms → restAfter ms′ ≡ restAfter ms → Closing parse text ms base before after s → Closing parse′ text ms′ base before after s
+    → parse′ (firstWords ms′) ≡ parse (firstWords ms) → isClosed ms′ ≡ isClosed ms → restAfter ms′ ≡ restAfter ms → Closing parse text ms base before after s → Closing parse′ text ms′ base before after s
 closing-as p q r c = record {
   kept = c .kept;
   kind-some = c .kind-some;
@@ -200,7 +204,9 @@ closing-as p q r c = record {
     closed = q ∙ c .entry-read k .closed;
     rest = r ∙ c .entry-read k .rest;
     kind = c .entry-read k .kind;
+    kind-most = c .entry-read k .kind-most;
     count = c .entry-read k .count;
+    few = c .entry-read k .few;
     bound = c .entry-read k .bound;
     wide = c .entry-read k .wide;
     unnamed = c .entry-read k .unnamed;
@@ -216,7 +222,7 @@ module _ {text : List ℕ} {p : Place} {t : Token} (n : NextToken text 0 p t) {b
   pub statement-none : t .kind ≡ 0 → s .kind ≡ 0 → StatementIs text (marksAt p text) base before before s
   statement-none k z = record {
     kept = refl;
-    nothing = λ _. token-none n k;
+    nothing = λ _. (token-none n k, refl);
     more = λ h. absurd (h z);
     closing = λ h. absurd (h z);
   }
@@ -255,5 +261,5 @@ module _ {text : List ℕ} {p : Place} {t : Token} (n : NextToken text 0 p t) {b
     unfolding firstWords
     statement-other h c = closed (closing-as
         (ap (λ (m : List Mark). statement (firstWords m)) (token-word n k) ∙ statement-row (part text (t .start) (t .end)) (firstWords (marksAt Inside (drop (t .end) text))) h
-            ∙ sym (ap (λ (m : List Mark). row (firstWords m)) (token-word n k)) ∙ ap (λ (m : List Mark). row (firstWords m)) (n .again))
+        ∙ sym (ap (λ (m : List Mark). row (firstWords m)) (token-word n k)) ∙ ap (λ (m : List Mark). row (firstWords m)) (n .again))
         (ap isClosed (n .again)) (ap restAfter (n .again)) c)

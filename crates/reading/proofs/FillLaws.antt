@@ -1,7 +1,7 @@
 -- Tables that grow by one entry. Assumes nothing.
 use mathlib.Core.Path.{_≡_, refl, sym, ap, ap₂, _∙_, subst}
 use mathlib.Core.Bool.{Bool, true, false, _||_}
-use mathlib.Core.List.{List, [], _∷_, _++_, append-assoc}
+use mathlib.Core.List.{List, [], _∷_, _++_, append-assoc, append-nil}
 use Prim.Native.Nat.{ℕ, zero, suc, _+_, _-_, _*_, _≤_, _<_}
 use native.Mathlib.Omega.{arith}
 use native.Mathlib.Numerals.{add-one}
@@ -32,9 +32,6 @@ drop-replicate (suc k) (suc n) h = drop-replicate k n (omega arith) ∙ ap (λ (
     same = omega arith
 
 module _ (room : ℕ) (xs ys found : List ℤ) (h : length xs + length ys ≤ room) where
-  beyond : List ℤ
-  beyond = replicate (room - length xs) (pos 0) ++ drop room found
-
   -- ys written just after xs are filled in
   pub fill-next : take (length xs) (filled room xs found) ++ (ys ++ drop (length xs + length ys) (filled room xs found)) ≡ filled room (xs ++ ys) found
   fill-next =
@@ -80,7 +77,7 @@ two p q k t a b h =
     ∙ sym (append-assoc p (t .coef ∷ (t .lit ∷ [])) q)
 
 pub stored-all : (us : List Term) (p q : List ℤ) (k : ℕ) → length p ≡ k * 2 → any isWide us ≡ false → any isUnnamed us ≡ false → k + length us ≤ maxTerms → length us * 2 ≤ length q
-  → stored (p ++ q) k us ≡ p ++ (termNumbers us ++ drop (length us * 2) q)
+    → stored (p ++ q) k us ≡ p ++ (termNumbers us ++ drop (length us * 2) q)
 unfolding stored termNumbers any
 stored-all [] p q k h w n m l = refl
 stored-all (u ∷ us) p [] k h w n m l = absurd (omega arith)
@@ -96,3 +93,71 @@ stored-all (u ∷ us) p (a ∷ (b ∷ q)) k h w n m l =
 
     same : suc (suc (length us * 2)) ≡ suc (length us) * 2
     same = omega arith
+
+-- ---- one entry more
+
+pub terms-room : (es : List Entry) → length (allTerms es) ≤ maxTerms → length (termNumbers (allTerms es)) ≤ termRoom
+terms-room es h = omega (arith, termNumbers-length (allTerms es))
+
+pub rows-room : (es : List Entry) → length es ≤ maxEntries → length (entryNumbers 0 es) ≤ rowRoom
+rows-room es h = omega (arith, entryNumbers-length 0 es)
+
+pub allTerms-last : (es : List Entry) (e : Entry) → allTerms (es ++ (e ∷ [])) ≡ allTerms es ++ e .terms
+unfolding allTerms
+allTerms-last es e = allTerms-append es (e ∷ []) ∙ ap (λ (ts : List Term). allTerms es ++ ts) (append-nil (e .terms))
+
+pub terms-next : (es : List Entry) (e : Entry) (found : List ℤ) → any isWide (e .terms) ≡ false → any isUnnamed (e .terms) ≡ false → length (allTerms es) + length (e .terms) ≤ maxTerms
+    → stored (termTable es found) (length (allTerms es)) (e .terms) ≡ termTable (es ++ (e ∷ [])) found
+terms-next es e found w n h =
+    stored-all (e .terms) xs (replicate (termRoom - length xs) (pos 0) ++ drop termRoom found) (length (allTerms es)) (termNumbers-length (allTerms es)) w n h long
+    ∙ ap (λ (l : List ℤ). xs ++ (termNumbers (e .terms) ++ l)) more
+    ∙ sym (append-assoc xs (termNumbers (e .terms)) (replicate (termRoom - length (xs ++ termNumbers (e .terms))) (pos 0) ++ drop termRoom found))
+    ∙ ap (λ (l : List ℤ). filled termRoom l found) (sym (termNumbers-append (allTerms es) (e .terms)) ∙ ap termNumbers (sym (allTerms-last es e)))
+  where
+    xs : List ℤ
+    xs = termNumbers (allTerms es)
+
+    zeros : ℕ
+    zeros = termRoom - length xs
+
+    size : length xs ≡ length (allTerms es) * 2
+    size = termNumbers-length (allTerms es)
+
+    sizes : length (xs ++ termNumbers (e .terms)) ≡ length (allTerms es) * 2 + length (e .terms) * 2
+    sizes = length-append xs (termNumbers (e .terms)) ∙ ap₂ _+_ size (termNumbers-length (e .terms))
+
+    fits : length (e .terms) * 2 ≤ length (replicate (termRoom - length xs) (pos 0))
+    fits = omega (arith, length-replicate (termRoom - length xs) (pos 0), size)
+
+    long : length (e .terms) * 2 ≤ length (replicate (termRoom - length xs) (pos 0) ++ drop termRoom found)
+    long = omega (arith, length-append (replicate (termRoom - length xs) (pos 0)) (drop termRoom found), fits)
+
+    left : termRoom - length xs - length (e .terms) * 2 ≡ termRoom - length (xs ++ termNumbers (e .terms))
+    left = omega (arith, size, sizes)
+
+    more : drop (length (e .terms) * 2) (replicate (termRoom - length xs) (pos 0) ++ drop termRoom found) ≡ replicate (termRoom - length (xs ++ termNumbers (e .terms))) (pos 0) ++ drop termRoom found
+    more =
+        drop-append-le (length (e .terms) * 2) (replicate (termRoom - length xs) (pos 0)) (drop termRoom found) fits
+        ∙ ap (λ (l : List ℤ). l ++ drop termRoom found) (drop-replicate (length (e .terms) * 2) (termRoom - length xs) (omega (arith, size)) ∙ ap (λ (m : ℕ). replicate m (pos 0)) left)
+
+pub rows-next : (es : List Entry) (e : Entry) (found : List ℤ) → length es < maxEntries → rowRoom ≤ length found
+    → sets (rowTable es found) (length es * 4) (pos (e .kind) ∷ (pos (length (allTerms es)) ∷ (pos (length (e .terms)) ∷ (e .bound ∷ [])))) ≡ rowTable (es ++ (e ∷ [])) found
+unfolding entryNumbers
+rows-next es e found h k =
+    sets-eq four (rowTable es found) (length es * 4) inside
+    ∙ append-assoc (take (length es * 4) (rowTable es found)) four (drop (length es * 4 + length four) (rowTable es found))
+    ∙ ap (λ (n : ℕ). take n (rowTable es found) ++ (four ++ drop (n + length four) (rowTable es found))) (sym size)
+    ∙ fill-next rowRoom (entryNumbers 0 es) four found (omega (arith, size))
+    ∙ ap (λ (l : List ℤ). filled rowRoom l found) (sym (entryNumbers-append 0 es (e ∷ []) ∙ ap (λ (n : ℕ). entryNumbers 0 es ++ entryNumbers n (e ∷ [])) none))
+  where
+    none : 0 + length (allTerms es) ≡ length (allTerms es)
+    none = omega arith
+
+    four : List ℤ
+    four = pos (e .kind) ∷ (pos (length (allTerms es)) ∷ (pos (length (e .terms)) ∷ (e .bound ∷ [])))
+
+    size : length (entryNumbers 0 es) ≡ length es * 4
+    size = entryNumbers-length 0 es
+
+    inside : length es * 4 + 4 ≤ length (rowTable es found)
+    inside = omega (arith, fill-length rowRoom (entryNumbers 0 es) found (omega (arith, size)) k)

@@ -7,3 +7,7 @@ pub mod StatementLaws
 pub mod ClosingLaws
 pub mod FillLaws
 pub mod MarksLaws
+pub mod VerdictLaws
+pub mod ReadLaws
+pub mod TakeLaws
+pub mod AnswerLaws

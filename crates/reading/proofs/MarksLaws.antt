@@ -52,7 +52,7 @@ module _ (s : ℕ) (os rs : List Entry) where
 
   -- an entry is tried, and the next statement is read
   pub marks-entry : (ms : List Mark) (e : Entry) → isClosed ms ≡ true → statement (firstWords ms) ≡ some e
-    → readMarks s os rs ms ≡ goOn (verdict os rs e) s (readMarks (suc s) (addTo (isFirst e) os e) (addTo (not (isFirst e)) rs e) (restAfter ms))
+      → readMarks s os rs ms ≡ goOn (verdict os rs e) s (readMarks (suc s) (addTo (isFirst e) os e) (addTo (not (isFirst e)) rs e) (restAfter ms))
   unfolding readOn
   marks-entry ms e h p = read-as ms (closed-first ms h) ∙ ap (λ (o : Option Entry). takeOne o s os rs (λ os′ rs′. readOn (suc s) os′ rs′ (statements (restAfter ms) .ended) (statements (restAfter ms) .after))) p
 

@@ -135,8 +135,8 @@ module _ {text : List ℕ} {first base : ℕ} {before now : List ℤ} {at count 
   going-kept = ap (drop termRoom) (g .left) ∙ stored-kept before base (g .terms)
 
   pub going-step : (s : Step) → IsTerm text at s → {now′ : List ℤ} {wide′ unnamed′ : Bool} {top′ : ℕ}
-    → now′ ≡ storeAt now (base + count) (termOf (s .coef) (s .lit)) → wide′ ≡ wide || isWide (termOf (s .coef) (s .lit)) → unnamed′ ≡ unnamed || isUnnamed (termOf (s .coef) (s .lit))
-    → top′ ≡ max top (s .lit .size) → Going text first base before now′ (s .next) (count + 1) wide′ unnamed′ top′
+      → now′ ≡ storeAt now (base + count) (termOf (s .coef) (s .lit)) → wide′ ≡ wide || isWide (termOf (s .coef) (s .lit)) → unnamed′ ≡ unnamed || isUnnamed (termOf (s .coef) (s .lit))
+      → top′ ≡ max top (s .lit .size) → Going text first base before now′ (s .next) (count + 1) wide′ unnamed′ top′
   going-step s i e f h k = record {
     terms = g .terms ++ (t ∷ []);
     low = omega (arith, more, g .low, i .low);

@@ -35,7 +35,7 @@ module _ {text : List ℕ} {first : ℕ} {t : Token} (n : NextToken text first I
 
   -- a coefficient's word, and what follows it
   pub term-is : t .kind ≡ 2 → relation (part text (t .start) (t .end)) ≡ 0 → (x : Number) → number (part text (t .start) (t .end)) ≡ some (value x) → x .size < 10 ^ 10
-    → (s : Step) → SecondIs text (t .end) x s → StepIs text first s
+      → (s : Step) → SecondIs text (t .end) x s → StepIs text first s
   term-is h r x e small s k = record {
     kind-most = k .kind-most;
     term = λ z. record {

@@ -4,3 +4,6 @@ pub mod Grammar
 pub mod Reading
 pub mod Stored
 pub mod Steps
+pub mod Limits
+pub mod Answers
+pub mod Outcomes

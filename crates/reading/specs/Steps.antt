@@ -106,6 +106,7 @@ pub record RunIs (text : List ℕ) (first base : ℕ) (before after : List ℤ) 
   pub reached : Reached terms (marksAt Inside (drop first text)) (marksAt Inside (drop at text))
   pub stops : IsStop text at (r .stop)
   pub count : r .count ≡ length terms
+  pub few : r .count ≤ length text
   pub wide : r .wide ≡ any isWide terms
   pub unnamed : r .unnamed ≡ any isUnnamed terms
   pub top : r .top ≡ highest terms
@@ -144,7 +145,9 @@ pub record EntryRead (parse : Words → Option Entry) (text : List ℕ) (ms : Li
   pub closed : isClosed ms ≡ true
   pub rest : restAfter ms ≡ marksAt Inside (drop (s .next) text)
   pub kind : s .kind ≡ entry .kind
+  pub kind-most : s .kind ≤ 4
   pub count : s .count ≡ length (entry .terms)
+  pub few : s .count ≤ length text
   pub bound : s .bound ≡ entry .bound
   pub wide : s .wide ≡ any isWide (entry .terms) || ltb maxBound (natAbs (entry .bound))
   pub unnamed : s .unnamed ≡ any isUnnamed (entry .terms)
@@ -163,6 +166,6 @@ pub record Closing (parse : Words → Option Entry) (text : List ℕ) (ms : List
 -- What the marks ms of a part of a text begin with: nothing (0), or a statement.
 pub record StatementIs (text : List ℕ) (ms : List Mark) (base : ℕ) (before after : List ℤ) (s : Statement) : Type 0 where
   pub kept : Kept before after
-  pub nothing : s .kind ≡ 0 → ms ≡ []
+  pub nothing : s .kind ≡ 0 → (ms ≡ []) × (after ≡ before)
   pub more : (s .kind ≡ 0 → ⊥) → 1 ≤ length ms
   pub closing : (s .kind ≡ 0 → ⊥) → Closing statement text ms base before after s

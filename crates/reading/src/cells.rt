@@ -1,7 +1,8 @@
 // The tables' cells: what a term and an entry leave in them.
-use instance::{Entry, Instance, Term};
+use instance::Entry;
+use instance::Instance;
+use instance::Term;
 use words::numbers::Number;
-
 ghost use mathlib.Core.Path.{_≡_};
 ghost use mathlib.Core.List.{[], _∷_};
 ghost use Prim.Native.Nat.{_*_, _^_, _≤_, _<_, max};

@@ -1,9 +1,16 @@
 // One statement, read from the part of the text that begins just after the last semicolon.
-use crate::cells::{either, is_far, wide_value};
+use crate::cells::either;
+use crate::cells::is_far;
+use crate::cells::wide_value;
 use crate::terms::read_terms;
-use words::numbers::{Number, is_min, no_number, read_number, read_relation};
-use words::{Place, Token, next_token};
-
+use words::Place;
+use words::Token;
+use words::next_token;
+use words::numbers::Number;
+use words::numbers::is_min;
+use words::numbers::no_number;
+use words::numbers::read_number;
+use words::numbers::read_relation;
 ghost use mathlib.Core.Path.{_≡_};
 ghost use mathlib.Core.Bool.{false};
 ghost use Prim.Native.Nat.{_^_, _≤_, _<_};
@@ -35,7 +42,9 @@ pub struct Statement {
 
 impl Statement {
     pub const NOTHING: u64 = 0;
+
     pub const OBJECTIVE: u64 = 1;
+
     pub const BROKEN: u64 = 5;
 }
 

@@ -1,8 +1,17 @@
 // A run of terms of a statement.
-use crate::cells::{either, higher, is_unnamed, is_wide, store_term};
-use words::numbers::{Number, no_number, read_literal, read_number, read_relation};
-use words::{Place, Token, next_token};
-
+use crate::cells::either;
+use crate::cells::higher;
+use crate::cells::is_unnamed;
+use crate::cells::is_wide;
+use crate::cells::store_term;
+use words::Place;
+use words::Token;
+use words::next_token;
+use words::numbers::Number;
+use words::numbers::no_number;
+use words::numbers::read_literal;
+use words::numbers::read_number;
+use words::numbers::read_relation;
 ghost use Prim.Native.Nat.{_^_, _≤_, _<_};
 ghost use lib.ListN.{length};
 ghost use Rattle.instance.specs.Limits.{maxTerms, termRoom};
@@ -19,7 +28,9 @@ pub struct Step {
 
 impl Step {
     pub const TERM: u64 = 0;
+
     pub const STOP: u64 = 1;
+
     pub const BROKEN: u64 = 2;
 }
 

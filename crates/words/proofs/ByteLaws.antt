@@ -74,7 +74,7 @@ begins-true p b e = by (isBlank b) (isKept p b) refl refl e
 
 -- one plain byte more
 pub plain-more : (text : List ℕ) (first i : ℕ) → ((k : ℕ) → first ≤ k → k < i → isPlain (getD text k 0) ≡ true) → isPlain (getD text i 0) ≡ true
-  → (k : ℕ) → first ≤ k → k < i + 1 → isPlain (getD text k 0) ≡ true
+    → (k : ℕ) → first ≤ k → k < i + 1 → isPlain (getD text k 0) ≡ true
 plain-more text first i h e k l m = by (decLt k i)
   where
     by : Dec (k < i) → isPlain (getD text k 0) ≡ true

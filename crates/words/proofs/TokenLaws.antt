@@ -21,7 +21,7 @@ use Rattle.words.specs.Answers.{part, marksFrom, NextToken, Says, number
 
 module _ {text : List ℕ} {first : ℕ} {p : Place} {t : Token} (n : NextToken text first p t) where
   picked : (a b : Bool) → eqb (t .kind) 0 ≡ a → eqb (t .kind) 1 ≡ b
-    → marksAt p (drop first text) ≡ cond a [] (cond b (stop ∷ marksAt Inside (drop (t .end) text)) (word (part text (t .start) (t .end)) ∷ marksAt Inside (drop (t .end) text)))
+      → marksAt p (drop first text) ≡ cond a [] (cond b (stop ∷ marksAt Inside (drop (t .end) text)) (word (part text (t .start) (t .end)) ∷ marksAt Inside (drop (t .end) text)))
   picked a b e f =
       n .marks
       ∙ ap (λ (x : Bool). cond x [] (cond (eqb (t .kind) 1) (stop ∷ marksAt Inside (drop (t .end) text)) (word (part text (t .start) (t .end)) ∷ marksAt Inside (drop (t .end) text)))) e

@@ -135,7 +135,9 @@ pub struct Token {
 
 impl Token {
     pub const NONE: u64 = 0;
+
     pub const STOP: u64 = 1;
+
     pub const WORD: u64 = 2;
 }
 

@@ -76,8 +76,11 @@ pub struct Relation {
 
 impl Relation {
     pub const NONE: u64 = 0;
+
     pub const AT_LEAST: u64 = 2;
+
     pub const AT_MOST: u64 = 3;
+
     pub const EQUAL: u64 = 4;
 }
 

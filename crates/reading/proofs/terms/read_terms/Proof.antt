@@ -43,7 +43,7 @@ same-length-2 : tie.Need-same-length-2 Inv-loop μ-loop
 same-length-2 c = going-length (c .before .before .before .before .loop .inv)
 
 returns-2 : tie.Need-returns-2 Inv-loop μ-loop
-returns-2 c = record { kept = going-kept (c .before .before .before .before .loop .inv); yes-run = λ _. record { terms = (c .before .before .before .before .loop .inv) .terms; at = c .before .before .before .before .loop .at; low = omega (arith, (c .before .before .before .before .loop .inv) .low); reached = (c .before .before .before .before .loop .inv) .reached; stops = (c .before .before .before .read-term .ensures) .stop (c .if2 .taken); count = (c .before .before .before .before .loop .inv) .count-is; wide = (c .before .before .before .before .loop .inv) .wide-is; unnamed = (c .before .before .before .before .loop .inv) .unnamed-is; top = (c .before .before .before .before .loop .inv) .top-is; left = (c .before .before .before .before .loop .inv) .left }; no-run = λ e. clash (sym e) }
+returns-2 c = record { kept = going-kept (c .before .before .before .before .loop .inv); yes-run = λ _. record { terms = (c .before .before .before .before .loop .inv) .terms; at = c .before .before .before .before .loop .at; low = omega (arith, (c .before .before .before .before .loop .inv) .low); reached = (c .before .before .before .before .loop .inv) .reached; stops = (c .before .before .before .read-term .ensures) .stop (c .if2 .taken); count = (c .before .before .before .before .loop .inv) .count-is; few = omega (arith, (c .before .before .before .before .loop .inv) .count-is, (c .before .before .before .before .loop .inv) .low, (c .before .before .before .before .loop .inv) .high); wide = (c .before .before .before .before .loop .inv) .wide-is; unnamed = (c .before .before .before .before .loop .inv) .unnamed-is; top = (c .before .before .before .before .loop .inv) .top-is; left = (c .before .before .before .before .loop .inv) .left }; no-run = λ e. clash (sym e) }
 
 add-store-term : tie.Need-add-store-term Inv-loop μ-loop
 add-store-term c = omega (arith, (c .before .before .before .before .before .before .before .loop .inv) .count-is, (c .before .before .before .before .before .before .before .loop .inv) .low, (c .before .before .before .before .before .before .before .loop .inv) .high, c .before .before .before .before .before .before .before .before .before .pre)
