@@ -7,6 +7,7 @@ use lib.ListN.{length, take}
 use Rattle.instance.specs.Limits.{termRoom, rowRoom}
 use Rattle.instance.specs.Terms.{highest}
 use Rattle.instance.specs.Rows.{Entry}
+use Rattle.instance.specs.Tables.{IsInstance}
 use Rattle.instance.specs.Meaning.{meaning}
 use Rattle.instance.specs.Layout.{allTerms, termTable, rowTable}
 use Rattle.reading.specs.Reading.{accepted, readBytes}
@@ -24,3 +25,8 @@ pub record GivesBack (text : List ℕ) (ts rs : List ℤ) : Type 0 where
   pub terms-anywhere : (found : List ℤ) → take termRoom (termTable (objectives ++ rows) found) ≡ take termRoom ts
   pub rows-anywhere : (found : List ℤ) → take rowRoom (rowTable (objectives ++ rows) found) ≡ take rowRoom rs
   pub variables-same : highest (allTerms (objectives ++ rows)) ≡ (meaning ts rs) .variables
+
+-- Tables that reading leaves: an instance of n variables.
+pub record LeavesInstance (n : ℕ) (ts rs : List ℤ) : Type 0 where
+  pub is : IsInstance ts rs
+  pub variables : (meaning ts rs) .variables ≡ n
