@@ -15,7 +15,7 @@ use Rattle.decimal.specs.Bytes.{overwrite}
 use Rattle.decimal.specs.Decimal.{decimal, digitByte, integer, signed, signByte}
 use Rattle.decimal.proofs.DecimalLaws.{decimal-small, decimal-large, decimal-more, decimal-one}
 use Rattle.decimal.proofs.OverwriteLaws.{overwrite-one, overwrite-last}
-use Rattle.decimal.proofs.SignedLaws.{plain}
+use Rattle.integers.proofs.SignedLaws.{plain}
 
 -- ---- the digits, the last first: i is the place of the last digit that is not yet written
 

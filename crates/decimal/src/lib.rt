@@ -2,6 +2,7 @@
 // Lengths: decimal_len, integer_len, signed_len. Writing: put_byte, put_bytes, put_decimal, put_integer, put_signed.
 // Reading: read_numeral. Document 01, "Instance text" and "The listing program"; read specs/Decimal.antt and specs/Bytes.antt.
 // A put writes from `at` on and answers the place just after what it wrote; the caller has made sure of the room.
+use integers::magnitude;
 ghost use mathlib.Core.Path.{_≡_};
 ghost use mathlib.Core.List.{[], _∷_};
 ghost use Prim.Native.Nat.{_+_, _-_, _<_, _≤_};
@@ -34,13 +35,6 @@ pub fn decimal_len(x: u64) -> usize
         n += 1;
     }
     n
-}
-
-// The size of x, without its sign.
-pub fn magnitude(x: i64) -> u64
-    ensures { λ r. ⌜ r ≡ natAbs x ⌝ }
-{
-    if x < 0 { (-1 - x) as u64 + 1 } else { x as u64 }
 }
 
 // The sign of x as a byte: a minus if x is negative, else a plus.

@@ -1,9 +1,8 @@
--- Laws for the crates above: signed numbers (SignedLaws) and tests (TestLaws) for any crate; lists by index, runs, terms and sums
+-- Laws for the crates above: tests (TestLaws) for any crate; lists by index, runs, terms and sums
 -- (ListLaws, SumLaws) for judging and listing; what an instance gives (InstanceLaws) for whoever reads tables that were checked; that
 -- answers are determined (AnswerLaws). For whoever fills tables: the numbers of given entries (NumberLaws), the tables that hold an
 -- instance are one and mean it (LayoutLaws), and tables that are an instance are those that hold their meaning (MeaningLaws).
 -- TableLaws serve the check itself, ReadLaws serve LayoutLaws.
-pub mod SignedLaws
 pub mod TestLaws
 pub mod ListLaws
 pub mod SumLaws

@@ -14,7 +14,7 @@ use Rattle.instance.specs.Lists.{tabulate}
 use Rattle.instance.specs.Terms.{Term, TermOk, litTrue, termValue, sum, highest}
 use Rattle.instance.specs.Tables.{termAt}
 use Rattle.instance.specs.Meaning.{termsAt}
-use Rattle.instance.proofs.SignedLaws.{abs-add, sfits-abs}
+use Rattle.integers.proofs.SignedLaws.{abs-add, sfits-abs}
 use Rattle.instance.proofs.ListLaws.{tabulate-snoc}
 
 -- ---- highest

@@ -1,4 +1,5 @@
 // Signed numbers as natural ones: the rest of the crate counts in unsigned numbers.
+use integers::magnitude;
 ghost use mathlib.Core.Path.{_≡_};
 ghost use lib.Dec.{T};
 ghost use lib.IntN.{natAbs};
@@ -14,14 +15,7 @@ pub fn natural(x: i64) -> usize
     x as usize
 }
 
-// How far a number is from zero.
-pub fn magnitude(x: i64) -> u64
-    ensures { λ r. ⌜ r ≡ natAbs x ⌝ }
-{
-    if x < 0 { (-1 - x) as u64 + 1 } else { x as u64 }
-}
-
-// The same of a number of 32 bits.
+// The size of a number of 32 bits.
 pub fn magnitude32(x: i32) -> u64
     ensures { λ r. ⌜ r ≡ natAbs x ⌝ }
 {

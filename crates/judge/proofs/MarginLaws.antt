@@ -11,7 +11,7 @@ use mir.Syntax.{w64}
 use mir.Val.{SFits}
 use Rattle.instance.specs.Limits.{maxBound}
 use Rattle.instance.specs.Rows.{Entry, marginOf, margin, holds}
-use Rattle.instance.proofs.SignedLaws.{abs-add, abs-parts, neg-parts, sfits-abs, lt-not-le, ≤ℤ-eq}
+use Rattle.integers.proofs.SignedLaws.{abs-add, abs-parts, neg-parts, sfits-abs, lt-not-le, ≤ℤ-eq}
 
 -- ---- sizes
 pub neg-abs : (z : ℤ) → natAbs (negℤ z) ≡ natAbs z

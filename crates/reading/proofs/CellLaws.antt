@@ -14,7 +14,7 @@ use Rattle.words.proofs.ByteLaws.{clash}
 use mir.Syntax.{Width, w64}
 use mir.Val.{SFits, toZ, ofZ, hbits}
 use mir.Facts.{toZ-ofZ}
-use Rattle.instance.proofs.SignedLaws.{fits-as, read-as, sfits-abs}
+use Rattle.integers.proofs.SignedLaws.{fits-as, read-as, sfits-abs}
 use Rattle.instance.specs.Limits.{maxTerms, maxCoef, maxVariable, termRoom, rowRoom}
 use Rattle.instance.specs.Terms.{Term}
 use Rattle.instance.specs.Layout.{termTable, rowTable, termNumbers, allTerms, entryNumbers}

@@ -20,7 +20,7 @@ use Rattle.instance.specs.Limits.{maxObjectives, maxRows, maxTerms, maxEntries,
 use Rattle.instance.specs.Terms.{Term, highest}
 use Rattle.instance.specs.Rows.{Entry}
 use Rattle.instance.specs.Layout.{allTerms, termTable, rowTable}
-use Rattle.instance.proofs.SignedLaws.{sfits-abs}
+use Rattle.integers.proofs.SignedLaws.{sfits-abs}
 use Rattle.instance.proofs.SumLaws.{highest-append}
 use Rattle.reading.specs.declared.statements.Statement.{Statement}
 use Rattle.reading.specs.Grammar.{statement}

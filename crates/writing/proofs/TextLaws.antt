@@ -12,7 +12,7 @@ use lib.ListN.{length, length-append}
 use mir.Syntax.{w64}
 use mir.Val.{SFits, toZ, ofZ}
 use Rattle.decimal.specs.Decimal.{decimal, integer, signed}
-use Rattle.decimal.proofs.SignedLaws.{plain}
+use Rattle.integers.proofs.SignedLaws.{plain}
 use Rattle.instance.specs.Lists.{tabulate}
 use Rattle.instance.specs.Terms.{Term}
 use Rattle.instance.specs.Rows.{Entry}

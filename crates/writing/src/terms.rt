@@ -52,7 +52,7 @@ fn put_literal(out: &mut [u8], at: usize, lit: i64) -> usize
     ensures left { λ _. ⌜ now (out .exit) ≡ overwrite (now (out .entry)) at (literalText lit) ⌝ }
     ensures next { λ r. ⌜ r ≡ at + length (literalText lit) ⌝ }
 {
-    let size = decimal::magnitude(lit);
+    let size = integers::magnitude(lit);
     if lit < 0 {
         let from = decimal::put_bytes(out, at, b"~x");
         return decimal::put_decimal(out, from, size);

@@ -8,7 +8,7 @@ use borrow.Author.Needs.{needs}
 use Rattle.instance.specs.Limits.{maxTerms}
 use Rattle.instance.specs.Tables.{firstAt, countAt, boundAt, isKind}
 use Rattle.instance.specs.Tests.{Decides, UpTo}
-use Rattle.instance.proofs.SignedLaws.{result-as}
+use Rattle.integers.proofs.SignedLaws.{result-as}
 use Rattle.instance.proofs.TestLaws.{refused, accepted, fails, holds, isKind-decides}
 use Rattle.instance.proofs.counts.is_placed.Statement.{statement}
 use Rattle.instance.proofs.counts.is_placed.Tie as tie

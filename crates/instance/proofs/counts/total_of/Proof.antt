@@ -10,7 +10,7 @@ use mir.Syntax.{w64}
 use mir.Val.{toZ, ofZ}
 use Rattle.instance.specs.Tables.{countAt, termsBefore}
 use Rattle.instance.specs.Parts.{EntriesOk, EntryPlaced}
-use Rattle.instance.proofs.SignedLaws.{result-as}
+use Rattle.integers.proofs.SignedLaws.{result-as}
 use Rattle.instance.proofs.TestLaws.{refused, accepted}
 use Rattle.instance.proofs.TableLaws.{termsBefore-zero, termsBefore-step, entries-none, entries-more, entries-placed}
 use Rattle.instance.proofs.counts.total_of.Statement.{statement}

@@ -3,7 +3,7 @@ use mathlib.Core.Path.{_≡_, ap, _∙_}
 use mir.Syntax.{w64}
 use borrow.Author.Needs.{needs}
 use Rattle.instance.specs.Tables.{isKind}
-use Rattle.instance.proofs.SignedLaws.{result-as}
+use Rattle.integers.proofs.SignedLaws.{result-as}
 use Rattle.instance.proofs.entries.is_objective.Statement.{statement}
 use Rattle.instance.proofs.entries.is_objective.Tie as tie
 

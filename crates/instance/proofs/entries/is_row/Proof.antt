@@ -6,7 +6,7 @@ use mir.Syntax.{w64}
 use mir.Val.{toZ, ofZ}
 use borrow.Author.Needs.{needs}
 use Rattle.instance.specs.Tables.{kindAt, isKind}
-use Rattle.instance.proofs.SignedLaws.{result-as}
+use Rattle.integers.proofs.SignedLaws.{result-as}
 use Rattle.instance.proofs.TestLaws.{or-first, or-next}
 use Rattle.instance.proofs.entries.is_row.Statement.{statement}
 use Rattle.instance.proofs.entries.is_row.Tie as tie

@@ -7,7 +7,7 @@ use lib.IntN.{ℤ, pos, natAbs}
 use lib.Signed.{ltZ, nonNeg}
 use mir.Facts.{toZ-ofZ}
 use Rattle.instance.specs.Tables.{isKind}
-use Rattle.instance.proofs.SignedLaws.{plain, coded, pos-yes}
+use Rattle.integers.proofs.SignedLaws.{plain, coded, pos-yes}
 use Rattle.instance.proofs.TestLaws.{isKind-neg, isKind-natural}
 use Rattle.instance.proofs.signed.equals.Statement.{statement}
 use Rattle.instance.proofs.signed.equals.Tie as tie

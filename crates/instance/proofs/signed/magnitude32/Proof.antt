@@ -3,7 +3,7 @@ use mathlib.Core.Path.{_≡_, ap, _∙_}
 use lib.IntN.{ℤ, natAbs}
 use mir.Syntax.{w32, w64}
 use mir.Facts.{toZ-ofZ, sfits-widen}
-use Rattle.instance.proofs.SignedLaws.{fits-as, read-as}
+use Rattle.integers.proofs.SignedLaws.{fits-as, read-as}
 use borrow.Author.Needs.{needs}
 use Rattle.instance.proofs.signed.magnitude32.Statement.{statement}
 use Rattle.instance.proofs.signed.magnitude32.Tie as tie

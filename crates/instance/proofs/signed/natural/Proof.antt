@@ -6,7 +6,7 @@ use lib.IntN.{ℤ, natAbs}
 use lib.Signed.{nonNeg, natAbs-le}
 use mir.Syntax.{w64}
 use mir.Val.{Fits}
-use Rattle.instance.proofs.SignedLaws.{coded}
+use Rattle.integers.proofs.SignedLaws.{coded}
 use borrow.Author.Needs.{needs}
 use Rattle.instance.proofs.signed.natural.Statement.{statement}
 use Rattle.instance.proofs.signed.natural.Tie as tie

@@ -7,7 +7,7 @@ use lib.Dec.{T}
 use lib.IntN.{ℤ, pos, natAbs}
 use lib.Signed.{ltZ, nonNeg}
 use mir.Facts.{toZ-ofZ}
-use Rattle.instance.proofs.SignedLaws.{plain, coded, neg-not, pos-yes}
+use Rattle.integers.proofs.SignedLaws.{plain, coded, neg-not, pos-yes}
 use Rattle.instance.proofs.TestLaws.{fails, holds}
 use Rattle.instance.proofs.signed.up_to.Statement.{statement}
 use Rattle.instance.proofs.signed.up_to.Tie as tie

@@ -7,7 +7,7 @@ use mir.Val.{ofZ}
 use borrow.Author.Needs.{needs}
 use Rattle.instance.specs.Limits.{rowRoom}
 use Rattle.instance.specs.Tables.{ZeroFrom}
-use Rattle.instance.proofs.SignedLaws.{zero-bits}
+use Rattle.integers.proofs.SignedLaws.{zero-bits}
 use Rattle.instance.proofs.TableLaws.{zero-more}
 use Rattle.instance.proofs.TestLaws.{fails, holds}
 use Rattle.instance.proofs.zeros.zero_rows.Statement.{statement}

@@ -7,7 +7,7 @@ use borrow.Author.Needs.{needs}
 use lib.IntN.{ℤ, pos, natAbs}
 use lib.Signed.{ltZ}
 use mir.Facts.{toZ-ofZ}
-use Rattle.instance.proofs.SignedLaws.{plain}
+use Rattle.integers.proofs.SignedLaws.{plain}
 use Rattle.judge.proofs.BitLaws.{literal-neg, literal-pos}
 use Rattle.judge.proofs.bits.literal_true.Statement.{statement}
 use Rattle.judge.proofs.bits.literal_true.Tie as tie

@@ -11,7 +11,7 @@ use Rattle.instance.specs.Tables.{objectivesIn, rowsIn}
 use Rattle.instance.specs.Meaning.{meaning, vector, entryAt}
 use Rattle.instance.specs.Answers.{SizesOf, CheckedAs}
 use Rattle.instance.specs.Tests.{Decides}
-use Rattle.instance.proofs.SignedLaws.{result-as}
+use Rattle.integers.proofs.SignedLaws.{result-as}
 use Rattle.instance.proofs.ListLaws.{tabulate-same}
 use Rattle.instance.proofs.TestLaws.{refused, accepted}
 use Rattle.judge.specs.Judging.{firstUnmet}

@@ -6,7 +6,7 @@ use native.Mathlib.Omega.{arith}
 use mir.Syntax.{w64}
 use Rattle.instance.specs.Terms.{Term, sum}
 use Rattle.instance.specs.Tables.{entriesIn}
-use Rattle.instance.proofs.SignedLaws.{result-as}
+use Rattle.integers.proofs.SignedLaws.{result-as}
 use Rattle.instance.proofs.InstanceLaws.{entry-fine, entry-terms}
 use Rattle.judge.proofs.SummableLaws.{entry-summable}
 use Rattle.judge.proofs.VectorLaws.{vector-at, vector-none}

@@ -7,7 +7,7 @@ use mir.Val.{toZ, ofZ}
 use Rattle.instance.specs.Lists.{tabulate}
 use Rattle.instance.specs.Rows.{Entry, margin}
 use Rattle.instance.specs.Meaning.{entryAt}
-use Rattle.instance.proofs.SignedLaws.{result-as}
+use Rattle.integers.proofs.SignedLaws.{result-as}
 use Rattle.judge.specs.Judging.{firstUnmet}
 use Rattle.judge.proofs.MarginLaws.{row-breaks, row-meets}
 use Rattle.judge.proofs.UnmetLaws.{unmetLeft, left-start, left-next, left-here, left-none}

@@ -11,7 +11,7 @@ use Rattle.instance.specs.Terms.{Term, sum}
 use Rattle.instance.specs.Rows.{marginOf}
 use Rattle.instance.specs.Tables.{kindAt, boundAt}
 use Rattle.instance.specs.Meaning.{entryAt}
-use Rattle.instance.proofs.SignedLaws.{result-as, read-as, sfits-abs}
+use Rattle.integers.proofs.SignedLaws.{result-as, read-as, sfits-abs}
 use Rattle.instance.proofs.InstanceLaws.{entry-fine, entry-terms, entry-sum-bound}
 use Rattle.judge.proofs.SummableLaws.{entry-summable}
 use Rattle.judge.proofs.margins.margin_at.Statement.{statement}

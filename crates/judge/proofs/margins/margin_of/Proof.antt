@@ -7,7 +7,7 @@ use mir.Syntax.{w64}
 use mir.Val.{SFits, toZ, ofZ}
 use mir.Facts.{toZ-ofZ}
 use Rattle.instance.specs.Rows.{marginOf}
-use Rattle.instance.proofs.SignedLaws.{fits-as, read-as}
+use Rattle.integers.proofs.SignedLaws.{fits-as, read-as}
 use Rattle.judge.proofs.MarginLaws.{sub-fits, neg-fits, neg-size, pos-size, margin-least, margin-most, margin-equal}
 use Rattle.judge.proofs.margins.margin_of.Statement.{statement}
 use Rattle.judge.proofs.margins.margin_of.Tie as tie

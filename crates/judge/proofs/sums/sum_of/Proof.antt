@@ -10,7 +10,7 @@ use Rattle.instance.specs.Lists.{tabulate}
 use Rattle.instance.specs.Terms.{TermOk, sum}
 use Rattle.instance.specs.Tables.{termAt}
 use Rattle.instance.specs.Meaning.{termsAt}
-use Rattle.instance.proofs.SignedLaws.{fits-as, read-as, result-as}
+use Rattle.integers.proofs.SignedLaws.{fits-as, read-as, result-as}
 use Rattle.instance.proofs.ListLaws.{tabulate-each, tabulate-length}
 use Rattle.instance.proofs.SumLaws.{sum-step, sum-fits}
 use Rattle.judge.proofs.sums.sum_of.Statement.{statement}

@@ -10,7 +10,7 @@ use mir.Facts.{toZ-ofZ}
 use Rattle.instance.specs.Terms.{Term, TermOk, IsLit, litTrue}
 use Rattle.instance.specs.Tables.{termAt}
 use Rattle.instance.specs.Structs.{termOf}
-use Rattle.instance.proofs.SignedLaws.{plain, coded, fits-as, read-as, sfits-abs}
+use Rattle.integers.proofs.SignedLaws.{plain, coded, fits-as, read-as, sfits-abs}
 use Rattle.judge.proofs.sums.term_value.Statement.{statement}
 use Rattle.judge.proofs.sums.term_value.Tie as tie
 

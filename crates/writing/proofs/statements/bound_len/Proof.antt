@@ -4,7 +4,7 @@ use native.Mathlib.Omega.{arith}
 use lib.IntN.{ℤ}
 use lib.ListN.{length}
 use Rattle.decimal.specs.Decimal.{integer}
-use Rattle.decimal.proofs.SignedLaws.{plain}
+use Rattle.integers.proofs.SignedLaws.{plain}
 use Rattle.writing.proofs.TextLaws.{bound-objective, bound-length}
 use Rattle.writing.proofs.LengthLaws.{integer-most, relation-most}
 use borrow.Author.Needs.{needs}

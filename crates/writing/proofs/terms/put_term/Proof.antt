@@ -9,7 +9,7 @@ use mir.Syntax.{w64}
 use mir.Val.{toZ, ofZ}
 use Rattle.decimal.specs.Decimal.{signed}
 use Rattle.instance.specs.Structs.{termOf}
-use Rattle.instance.proofs.SignedLaws.{result-as}
+use Rattle.integers.proofs.SignedLaws.{result-as}
 use Rattle.writing.specs.Writing.{literalText, termText}
 use Rattle.writing.proofs.RestLaws.{Rest, rest-all, rest-as, rest-room, rest-put, rest-room-all, rest-put-all}
 use Rattle.writing.proofs.terms.put_term.Statement.{statement}

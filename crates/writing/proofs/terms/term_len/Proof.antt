@@ -10,7 +10,7 @@ use mir.Syntax.{w64}
 use mir.Val.{toZ, ofZ}
 use Rattle.decimal.specs.Decimal.{signed}
 use Rattle.instance.specs.Structs.{termOf}
-use Rattle.instance.proofs.SignedLaws.{result-as}
+use Rattle.integers.proofs.SignedLaws.{result-as}
 use Rattle.writing.specs.Writing.{literalText}
 use Rattle.writing.proofs.TextLaws.{literal-length, term-length}
 use Rattle.writing.proofs.LengthLaws.{integer-most, signed-most}

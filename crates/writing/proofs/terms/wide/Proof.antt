@@ -1,7 +1,7 @@
 -- `writing::terms::wide` meets its contract: a number of 32 bits is the same in 64. Assumes nothing.
 use mir.Syntax.{w32}
 use mir.Facts.{toZ-ofZ, sfits-widen}
-use Rattle.decimal.proofs.SignedLaws.{fits-as, read-as}
+use Rattle.integers.proofs.SignedLaws.{fits-as, read-as}
 use Rattle.writing.proofs.terms.wide.Statement.{statement}
 use Rattle.writing.proofs.terms.wide.Tie as tie
 

@@ -7,7 +7,7 @@ use mir.Syntax.{w64}
 use mir.Val.{toZ, ofZ}
 use borrow.Author.Needs.{needs}
 use Rattle.instance.specs.Tables.{kindAt, firstAt, countAt}
-use Rattle.instance.proofs.SignedLaws.{result-as}
+use Rattle.integers.proofs.SignedLaws.{result-as}
 use Rattle.instance.proofs.entries.Entry.at.Statement.{statement}
 use Rattle.instance.proofs.entries.Entry.at.Tie as tie
 

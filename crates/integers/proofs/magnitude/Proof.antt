@@ -9,10 +9,10 @@ use lib.Signed.{ltZ, nonNeg, natAbs-le}
 use mir.Syntax.{w64}
 use mir.Val.{SFits, Fits, toZ, ofZ}
 use mir.Facts.{toZ-ofZ}
-use Rattle.instance.proofs.SignedLaws.{fits-as, read-as, cast-as, coded, plain, neg-index, neg-one, pos-yes}
+use Rattle.integers.proofs.SignedLaws.{fits-as, read-as, cast-as, coded, plain, neg-index, neg-one, pos-yes}
 use borrow.Author.Needs.{needs}
-use Rattle.instance.proofs.signed.magnitude.Statement.{statement}
-use Rattle.instance.proofs.signed.magnitude.Tie as tie
+use Rattle.integers.proofs.magnitude.Statement.{statement}
+use Rattle.integers.proofs.magnitude.Tie as tie
 
 -- the size is at most 2 ^ 63
 size : (c : tie.Start) → natAbs (c .args .x) ≤ 2 ^ 63

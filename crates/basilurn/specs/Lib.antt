@@ -1,0 +1,2 @@
+-- The C boundary: how an answer is packed into one number.
+pub mod Words

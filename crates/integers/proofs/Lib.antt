@@ -1,0 +1,2 @@
+-- For every crate above that has signed numbers.
+pub mod SignedLaws

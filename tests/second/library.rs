@@ -1,0 +1,25 @@
+//! The library's functions, as include/basilurn.h declares them. An answer is split into refusal and value.
+
+extern "C" {
+    fn basilurn_read_text(text: *const u8, n: usize, terms: *mut i32, t: usize, rows: *mut i64, r: usize) -> u64;
+    fn basilurn_write_text(terms: *const i32, t: usize, rows: *const i64, r: usize, out: *mut u8, n: usize) -> u64;
+    fn basilurn_judge(terms: *const i32, t: usize, rows: *const i64, r: usize, a: u64, values: *mut i64) -> u64;
+}
+
+fn split(answer: u64) -> (u32, u32) {
+    ((answer >> 32) as u32, answer as u32)
+}
+
+pub fn read_text(text: &[u8], terms: &mut [i32], rows: &mut [i64]) -> (u32, u32) {
+    split(unsafe { basilurn_read_text(text.as_ptr(), text.len(), terms.as_mut_ptr(), terms.len(), rows.as_mut_ptr(), rows.len()) })
+}
+
+pub fn write_text(terms: &[i32], rows: &[i64], out: &mut [u8]) -> (u32, u32) {
+    split(unsafe { basilurn_write_text(terms.as_ptr(), terms.len(), rows.as_ptr(), rows.len(), out.as_mut_ptr(), out.len()) })
+}
+
+pub fn judge(terms: &[i32], rows: &[i64], a: u64) -> (u32, [i64; 4], u32) {
+    let mut values = [77; 4];
+    let (refusal, row) = split(unsafe { basilurn_judge(terms.as_ptr(), terms.len(), rows.as_ptr(), rows.len(), a, values.as_mut_ptr()) });
+    (refusal, values, row)
+}
