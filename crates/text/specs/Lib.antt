@@ -1,0 +1,2 @@
+-- The round trip of instance text. Read RoundTrip.
+pub mod RoundTrip
