@@ -1,13 +1,12 @@
+-- The tests in turn are the clauses of the definition in turn.
 use mathlib.Core.Path.{_≡_, refl, sym, ap, _∙_}
 use mathlib.Core.Bool.{Bool, cond, _&&_}
 use Prim.Native.Nat.{ℕ}
 use lib.Dec.{eqb, ltb, leb}
 use borrow.Author.Tests.{eq-eqb, ne-eqb, lt-ltb, le-ltb}
 use borrow.Author.Needs.{needs}
-use Rattle.reading.proofs.texts.verdict_of.Statement.{statement}
-use Rattle.reading.proofs.texts.verdict_of.Tie as tie
-use Rattle.reading.proofs.texts.verdict_of.Reads as reads
-use Rattle.reading.proofs.texts.verdict_of.Lts as lts
+use Rattle.reading.proofs.verdicts.verdict_of.Statement.{statement}
+use Rattle.reading.proofs.verdicts.verdict_of.Tie as tie
 
 returns : tie.Need-returns
 returns c = search needs

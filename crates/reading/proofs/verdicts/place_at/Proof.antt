@@ -1,3 +1,4 @@
+-- By the test of 0.
 use borrow.Author.Needs.{needs}
 use mathlib.Core.Path.{_≡_, refl, sym, ap, _∙_}
 use mathlib.Core.Bool.{Bool, cond, _&&_}
@@ -5,10 +6,8 @@ use Prim.Native.Nat.{ℕ}
 use lib.Dec.{eqb, ltb, leb}
 use borrow.Author.Tests.{eq-eqb, ne-eqb, lt-ltb, le-ltb}
 use Rattle.words.specs.declared.Place.the-variants.{Inside, Start}
-use Rattle.reading.proofs.texts.place_at.Statement.{statement}
-use Rattle.reading.proofs.texts.place_at.Tie as tie
-use Rattle.reading.proofs.texts.place_at.Reads as reads
-use Rattle.reading.proofs.texts.place_at.Lts as lts
+use Rattle.reading.proofs.verdicts.place_at.Statement.{statement}
+use Rattle.reading.proofs.verdicts.place_at.Tie as tie
 
 returns : tie.Need-returns
 returns c = sym (ap (λ (b : Bool). cond b Start Inside) (eq-eqb (c .before .args .at) 0 (c .if1 .taken)))

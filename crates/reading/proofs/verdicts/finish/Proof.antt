@@ -1,13 +1,12 @@
+-- By the test of 0.
 use borrow.Author.Needs.{needs}
 use mathlib.Core.Path.{_≡_, refl, sym, ap, _∙_}
 use mathlib.Core.Bool.{Bool, cond, _&&_}
 use Prim.Native.Nat.{ℕ}
 use lib.Dec.{eqb, ltb, leb}
 use borrow.Author.Tests.{eq-eqb, ne-eqb, lt-ltb, le-ltb}
-use Rattle.reading.proofs.texts.finish.Statement.{statement}
-use Rattle.reading.proofs.texts.finish.Tie as tie
-use Rattle.reading.proofs.texts.finish.Reads as reads
-use Rattle.reading.proofs.texts.finish.Lts as lts
+use Rattle.reading.proofs.verdicts.finish.Statement.{statement}
+use Rattle.reading.proofs.verdicts.finish.Tie as tie
 
 returns : tie.Need-returns
 returns c = (sym (ap (λ (b : Bool). cond b 9 0) (eq-eqb (c .before .args .objectives) 0 (c .if1 .taken))), refl, refl)

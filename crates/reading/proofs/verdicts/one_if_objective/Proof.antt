@@ -1,13 +1,12 @@
+-- By the kind.
 use borrow.Author.Needs.{needs}
 use mathlib.Core.Path.{_≡_, refl, sym, ap, _∙_}
 use mathlib.Core.Bool.{Bool, cond, _&&_}
 use Prim.Native.Nat.{ℕ}
 use lib.Dec.{eqb, ltb, leb}
 use borrow.Author.Tests.{eq-eqb, ne-eqb, lt-ltb, le-ltb}
-use Rattle.reading.proofs.texts.one_if_objective.Statement.{statement}
-use Rattle.reading.proofs.texts.one_if_objective.Tie as tie
-use Rattle.reading.proofs.texts.one_if_objective.Reads as reads
-use Rattle.reading.proofs.texts.one_if_objective.Lts as lts
+use Rattle.reading.proofs.verdicts.one_if_objective.Statement.{statement}
+use Rattle.reading.proofs.verdicts.one_if_objective.Tie as tie
 
 returns : tie.Need-returns
 returns c = sym (ap (λ (b : Bool). cond b 1 0) (eq-eqb (c .before .args .kind) 1 (c .if1 .taken)))
