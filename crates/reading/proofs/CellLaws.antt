@@ -10,7 +10,7 @@ use lib.IntN.{ℤ, pos, negsuc, natAbs, negℤ, _-ℤ_, +ℤ-idl}
 use lib.ListN.{length, drop, set, replicate, length-replicate}
 use lib.Seq.{drop-cons, set-at, sets}
 use borrow.Author.Tests.{lt-ltb, le-ltb, ltb-false}
-use Rattle.words.proofs.ByteLaws.{clash}
+use Rattle.words.proofs.ByteLaws.{or-neither}
 use mir.Syntax.{Width, w64}
 use mir.Val.{SFits, toZ, ofZ, hbits}
 use mir.Facts.{toZ-ofZ}
@@ -118,8 +118,4 @@ entry-sets rs k kind first count bound h i j f =
 
 -- a variable in range is small
 pub unnamed-small : (n : ℕ) → eqb n 0 || ltb maxVariable n ≡ false → n ≤ maxCoef
-unnamed-small n e = omega (arith, ltb-false maxVariable n (or-right (eqb n 0) (ltb maxVariable n) e))
-  where
-    or-right : (a b : Bool) → a || b ≡ false → b ≡ false
-    or-right true b e = clash (sym e)
-    or-right false b e = e
+unnamed-small n e = omega (arith, ltb-false maxVariable n (or-neither (eqb n 0) (ltb maxVariable n) e .1))

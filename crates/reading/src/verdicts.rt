@@ -2,7 +2,6 @@
 use crate::statements::Statement;
 use instance::Instance;
 use words::Place;
-
 ghost use mathlib.Core.Path.{_≡_};
 ghost use mathlib.Core.Bool.{cond};
 ghost use lib.Dec.{eqb};
