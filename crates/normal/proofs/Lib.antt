@@ -1,0 +1,4 @@
+-- Laws of an instance in natural numbers.
+pub mod HalfLaws
+pub mod RowLaws
+pub mod SideLaws

@@ -1,0 +1,2 @@
+-- An instance in natural numbers. Read Halves (half rows).
+pub mod Halves
