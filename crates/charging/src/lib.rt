@@ -80,7 +80,16 @@ pub fn paid(m: u64, off: u8, dear: u8, res: u64) -> u64
 }
 
 // The greatest sum of the `many` terms from a on that val leaves in reach.
-pub fn reach(n: usize, tv: &[usize], off: &[u8], w: &[u64], set: u64, one: u64, a: usize, many: usize) -> u64
+pub fn reach(
+    n: usize,
+    tv: &[usize],
+    off: &[u8],
+    w: &[u64],
+    set: u64,
+    one: u64,
+    a: usize,
+    many: usize,
+) -> u64
     requires { ⌜ Terms n (now tv) (now off) (now w) × (a + many ≤ length (now tv)) ⌝ }
     ensures { λ r. ⌜ r ≡ span (term (now (tv .entry)) (now (off .entry)) (now (w .entry)) (seen set one)) a many ⌝ }
 {
@@ -96,7 +105,19 @@ pub fn reach(n: usize, tv: &[usize], off: &[u8], w: &[u64], set: u64, one: u64, 
 }
 
 // What the terms that need no charge can give.
-pub fn cover(n: usize, tv: &[usize], off: &[u8], w: &[u64], set: u64, one: u64, dear: &[u8], o: usize, res: &[u64], a: usize, many: usize) -> u64
+pub fn cover(
+    n: usize,
+    tv: &[usize],
+    off: &[u8],
+    w: &[u64],
+    set: u64,
+    one: u64,
+    dear: &[u8],
+    o: usize,
+    res: &[u64],
+    a: usize,
+    many: usize,
+) -> u64
     requires { ⌜ Terms n (now tv) (now off) (now w) × (a + many ≤ length (now tv)) × (o + n ≤ length (now dear)) × (n ≤ length (now res)) ⌝ }
     ensures { λ r. ⌜ r ≡ span (spareAt (now (tv .entry)) (now (off .entry)) (now (w .entry)) (seen set one) (now (dear .entry)) o (now (res .entry))) a many ⌝ }
 {
@@ -112,7 +133,17 @@ pub fn cover(n: usize, tv: &[usize], off: &[u8], w: &[u64], set: u64, one: u64, 
 }
 
 // At most what is left to charge at each chargeable term.
-pub fn least(n: usize, tv: &[usize], off: &[u8], w: &[u64], dear: &[u8], o: usize, res: &[u64], a: usize, many: usize) -> u64
+pub fn least(
+    n: usize,
+    tv: &[usize],
+    off: &[u8],
+    w: &[u64],
+    dear: &[u8],
+    o: usize,
+    res: &[u64],
+    a: usize,
+    many: usize,
+) -> u64
     requires { ⌜ Terms n (now tv) (now off) (now w) × (a + many ≤ length (now tv)) × (o + n ≤ length (now dear)) × (n ≤ length (now res)) ⌝ }
     ensures { λ r. ⌜ (r ≤ 2 ^ 34) × ((k : ℕ) → k < many → (getD (now (dear .entry)) (o + getD (now (tv .entry)) (a + k) 0) 0 ≡ getD (now (off .entry)) (a + k) 0 → ⊥) → (getD (now (res .entry)) (getD (now (tv .entry)) (a + k) 0) 0 ≡ 0 → ⊥) → r ≤ getD (now (res .entry)) (getD (now (tv .entry)) (a + k) 0) 0) ⌝ }
 {
@@ -128,7 +159,18 @@ pub fn least(n: usize, tv: &[usize], off: &[u8], w: &[u64], dear: &[u8], o: usiz
 }
 
 // Takes m off what is left to charge at each chargeable term.
-pub fn pay(n: usize, tv: &[usize], off: &[u8], w: &[u64], dear: &[u8], o: usize, res: &mut [u64], a: usize, many: usize, m: u64)
+pub fn pay(
+    n: usize,
+    tv: &[usize],
+    off: &[u8],
+    w: &[u64],
+    dear: &[u8],
+    o: usize,
+    res: &mut [u64],
+    a: usize,
+    many: usize,
+    m: u64,
+)
     requires { ⌜ Terms n (now tv) (now off) (now w) × (a + many ≤ length (now tv)) × (o + n ≤ length (now dear)) × (n ≤ length (now res)) ⌝ }
     ensures { λ _. ⌜ Paid n (now (tv .entry)) (now (off .entry)) (now (dear .entry)) o a many m (now (res .entry)) (now (res .exit)) ⌝ }
 {
@@ -178,7 +220,21 @@ pub fn owed(n: usize, d: &[u64], o: usize, set: u64, one: u64, res: &mut [u64])
 }
 
 // Charges row h, if it needs a dear side.
-pub fn charge_row(n: usize, start: &[usize], tv: &[usize], off: &[u8], w: &[u64], need: &[u64], d: &[u64], dear: &[u8], o: usize, set: u64, one: u64, res: &mut [u64], h: usize) -> u64
+pub fn charge_row(
+    n: usize,
+    start: &[usize],
+    tv: &[usize],
+    off: &[u8],
+    w: &[u64],
+    need: &[u64],
+    d: &[u64],
+    dear: &[u8],
+    o: usize,
+    set: u64,
+    one: u64,
+    res: &mut [u64],
+    h: usize,
+) -> u64
     requires { ⌜ Table n (now start) (now tv) (now off) (now w) (now need) × Costs n (now d) (now dear) o × (n ≤ length (now res)) × (h < length (now need)) ⌝ }
     ensures { λ r. ⌜ Step n (now (start .entry)) (now (tv .entry)) (now (off .entry)) (now (w .entry)) (now (need .entry)) (seen set one) (now (dear .entry)) o (now (res .entry)) (now (res .exit)) r ⌝ }
 {
@@ -193,7 +249,20 @@ pub fn charge_row(n: usize, start: &[usize], tv: &[usize], off: &[u8], w: &[u64]
 }
 
 // A lower bound of the cost of every completion that meets the rows, and what is left to charge.
-pub fn charge(n: usize, start: &[usize], tv: &[usize], off: &[u8], w: &[u64], need: &[u64], d: &[u64], dear: &[u8], o: usize, set: u64, one: u64, res: &mut [u64]) -> u64
+pub fn charge(
+    n: usize,
+    start: &[usize],
+    tv: &[usize],
+    off: &[u8],
+    w: &[u64],
+    need: &[u64],
+    d: &[u64],
+    dear: &[u8],
+    o: usize,
+    set: u64,
+    one: u64,
+    res: &mut [u64],
+) -> u64
     requires { ⌜ Table n (now start) (now tv) (now off) (now w) (now need) × Costs n (now d) (now dear) o × (n ≤ length (now res)) ⌝ }
     ensures { λ r. ⌜ Charged n (now (start .entry)) (now (tv .entry)) (now (off .entry)) (now (w .entry)) (now (need .entry)) (seen set one) (now (d .entry)) (now (dear .entry)) o r (now (res .exit)) ⌝ }
 {

@@ -30,12 +30,12 @@ rest-one n res dear o x v l e =
 pub cost-up : (n : ℕ) (y : ℕ → ℕ) (d dear : List ℕ) (o : ℕ) → Costs n d dear o → (x : ℕ → ℕ) → Completes n y x → cost n d dear o y ≤ cost n d dear o x
 cost-up n y d dear o q x c = span-mono (λ (v : ℕ). hit (y v) (getD dear (o + v) 0) (getD d (o + v) 0)) (λ (v : ℕ). hit (x v) (getD dear (o + v) 0) (getD d (o + v) 0)) 0 n (λ v l. rw zero-add (each v l))
   where
-  each : (v : ℕ) → v < n → hit (y v) (getD dear (o + v) 0) (getD d (o + v) 0) ≤ hit (x v) (getD dear (o + v) 0) (getD d (o + v) 0)
-  each v l =
-      ⊎-elim
-      (λ e. let same : x v ≡ y v = c .agrees v l (λ z. omega (arith, q .two v l)) in rw same (le-refl (hit (y v) (getD dear (o + v) 0) (getD d (o + v) 0))))
-      (λ e. omega (arith, hit-ne (y v) (getD dear (o + v) 0) (getD d (o + v) 0) e))
-      (eq-or (y v) (getD dear (o + v) 0))
+    each : (v : ℕ) → v < n → hit (y v) (getD dear (o + v) 0) (getD d (o + v) 0) ≤ hit (x v) (getD dear (o + v) 0) (getD d (o + v) 0)
+    each v l =
+        ⊎-elim
+        (λ e. let same : x v ≡ y v = c .agrees v l (λ z. omega (arith, q .two v l)) in rw same (le-refl (hit (y v) (getD dear (o + v) 0) (getD d (o + v) 0))))
+        (λ e. omega (arith, hit-ne (y v) (getD dear (o + v) 0) (getD d (o + v) 0) e))
+        (eq-or (y v) (getD dear (o + v) 0))
 
 -- R6
 pub force-more : (n : ℕ) (start tv off w need d dear : List ℕ) (o cap b lim : ℕ) (res : List ℕ) (p q r : Part) (v : ℕ) → v < n → Costs n d dear o
@@ -45,14 +45,14 @@ pub force-more : (n : ℕ) (start tv off w need d dear : List ℕ) (o cap b lim 
     → Leads n (Under n start tv off w need d dear o cap) p r
 force-more n start tv off w need d dear o cap b lim res p q r v l k ch e a m =
     maybe-leads n (Under n start tv off w need d dear o cap) p q v (1 - getD dear (o + v) 0) (lim < getD res v 0) r a m l (omega arith)
-      (λ why u x c wt z.
-        let same : x v ≡ getD dear (o + v) 0 = z ∙ flip (getD dear (o + v) 0) (k .two v l) in
-        let one = rest-one n res dear o x v l same in
-        let two = ch .bound x c (wt .meets) in
-        omega (arith, wt .under))
+    (λ why u x c wt z.
+    let same : x v ≡ getD dear (o + v) 0 = z ∙ flip (getD dear (o + v) 0) (k .two v l) in
+    let one = rest-one n res dear o x v l same in
+    let two = ch .bound x c (wt .meets) in
+    omega (arith, wt .under))
   where
-  flip : (b : ℕ) → b < 2 → 1 - (1 - b) ≡ b
-  flip b z = omega arith
+    flip : (b : ℕ) → b < 2 → 1 - (1 - b) ≡ b
+    flip b z = omega arith
 
 pub over : (n : ℕ) (start tv off w need d dear : List ℕ) (o cap b : ℕ) (res : List ℕ) (p : Part)
     → Charged n start tv off w need (of p) d dear o b res → cap < b → (x : ℕ → ℕ) → Completes n (of p) x → Under n start tv off w need d dear o cap x → ⊥
@@ -61,22 +61,22 @@ over n start tv off w need d dear o cap b res p ch l x c wt = let two = ch .boun
 -- more is asked of what is wanted
 pub cuts-less : (n : ℕ) (W U : (ℕ → ℕ) → Type 0) (p q : Part) (ok : Bool) → ((x : ℕ → ℕ) → Completes n (of p) x → U x → W x) → Cuts n W p ok q → Cuts n U p ok q
 cuts-less n W U p q ok f c =
-    record
-      { leads = record
-          { good = c .leads .good
-          ; narrows = record { more = c .leads .narrows .more; keep = λ x k u. c .leads .narrows .keep x k (f x k u) }
-          ; fewer = c .leads .fewer
-          }
-      ; none = λ e x k u. c .none e x k (f x k u)
-      }
+    record {
+      leads = record {
+        good = c .leads .good;
+        narrows = record { more = c .leads .narrows .more; keep = λ x k u. c .leads .narrows .keep x k (f x k u) };
+        fewer = c .leads .fewer;
+      };
+      none = λ e x k u. c .none e x k (f x k u);
+    }
 
 module _ (n : ℕ) (W : (ℕ → ℕ) → Type 0) where
   pub finds-cut : (p q : Part) (ok : Bool) (r : Part) → Leads n W p q → Finds n W q ok r → Finds n W p ok r
   finds-cut p q ok r a f =
-      record
-        { some = λ e. let s = f .some e in (narrows-back n W (of p) (of q) (a .narrows) (of r) (s .0), s .1)
-        ; none = λ e x c w. f .none e x (a .narrows .keep x c w) w
-        }
+      record {
+        some = λ e. let s = f .some e in (narrows-back n W (of p) (of q) (a .narrows) (of r) (s .0), s .1);
+        none = λ e x c w. f .none e x (a .narrows .keep x c w) w;
+      }
 
   pub finds-none : (p r : Part) → ((x : ℕ → ℕ) → Completes n (of p) x → W x → ⊥) → Finds n W p false r
   finds-none p r f = record { some = λ e. absurd (let z : _≡_ {A = ℕ} 0 1 = cc in omega arith); none = λ e. f }
@@ -88,10 +88,10 @@ module _ (n : ℕ) (W : (ℕ → ℕ) → Type 0) where
 
   pub child-keep : (p : Part) (v b : ℕ) (q : Part) → Put n p v b q → v < n → (x : ℕ → ℕ) → Completes n (of p) x → x v ≡ b → Completes n (of q) x
   child-keep p v b q t l x c e =
-      record
-        { bits = c .bits
-        ; agrees = λ k i z. ⊎-elim (λ y. ap x y ∙ e ∙ sym (t .here) ∙ ap (of q) (sym y)) (λ y. let o = t .others k y in c .agrees k i (λ f. z (o ∙ f)) ∙ sym o) (eq-or k v)
-        }
+      record {
+        bits = c .bits;
+        agrees = λ k i z. ⊎-elim (λ y. ap x y ∙ e ∙ sym (t .here) ∙ ap (of q) (sym y)) (λ y. let o = t .others k y in c .agrees k i (λ f. z (o ∙ f)) ∙ sym o) (eq-or k v);
+      }
 
   pub finds-one : (p : Part) (v b : ℕ) (q : Part) (r : Part) → Put n p v b q → of p v ≡ 2 → Finds n W q true r → Finds n W p true r
   finds-one p v b q r t u f =
@@ -101,14 +101,14 @@ module _ (n : ℕ) (W : (ℕ → ℕ) → Type 0) where
   pub finds-two : (p : Part) (v : ℕ) (q₀ q₁ : Part) (ok : Bool) (r₀ r : Part) → Put n p v 0 q₀ → Put n p v 1 q₁ → of p v ≡ 2 → v < n
       → Finds n W q₀ false r₀ → Finds n W q₁ ok r → Finds n W p ok r
   finds-two p v q₀ q₁ ok r₀ r t₀ t₁ u l f₀ f₁ =
-      record
-        { some = λ e. let s = f₁ .some e in (child-back p v 1 q₁ t₁ u (of r) (s .0), s .1)
-        ; none = λ e x c w.
+      record {
+        some = λ e. let s = f₁ .some e in (child-back p v 1 q₁ t₁ u (of r) (s .0), s .1);
+        none = λ e x c w.
             ⊎-elim
             (λ z. f₀ .none refl x (child-keep p v 0 q₀ t₀ l x c z) w)
             (λ z. f₁ .none e x (child-keep p v 1 q₁ t₁ l x c (omega (arith, c .bits v l, z))) w)
-            (eq-or (x v) 0)
-        }
+            (eq-or (x v) 0);
+      }
 
 -- a complete one completes itself
 pub whole : (n : ℕ) (p : Part) → ((u : ℕ) → u < n → of p u ≡ 2 → ⊥) → ((u : ℕ) → u < n → of p u < 2) → Completes n (of p) (of p)
@@ -119,14 +119,14 @@ pub cuts-cap : (n : ℕ) (start tv off w need d dear : List ℕ) (k : ℕ) (caps
     → Cuts n (Under n start tv off w need d dear (i * n) (getD caps i 0)) q ok r → Cuts n (Wanted n start tv off w need d dear k caps) p ok r
 cuts-cap n start tv off w need d dear k caps i l p q r ok a c =
     cuts-then n (Wanted n start tv off w need d dear k caps) p q r ok a
-      (cuts-less n (Under n start tv off w need d dear (i * n) (getD caps i 0)) (Wanted n start tv off w need d dear k caps) q r ok (λ x _ u. record { meets = u .meets; under = u .under i l }) c)
+    (cuts-less n (Under n start tv off w need d dear (i * n) (getD caps i 0)) (Wanted n start tv off w need d dear k caps) q r ok (λ x _ u. record { meets = u .meets; under = u .under i l }) c)
 
 pub cuts-rows : (n : ℕ) (start tv off w need d dear : List ℕ) (k : ℕ) (caps : List ℕ) → (p q r : Part) (ok : Bool)
     → Leads n (Wanted n start tv off w need d dear k caps) p q
     → Cuts n (Meets start tv off w need) q ok r → Cuts n (Wanted n start tv off w need d dear k caps) p ok r
 cuts-rows n start tv off w need d dear k caps p q r ok a c =
     cuts-then n (Wanted n start tv off w need d dear k caps) p q r ok a
-      (cuts-less n (Meets start tv off w need) (Wanted n start tv off w need d dear k caps) q r ok (λ x _ u. u .meets) c)
+    (cuts-less n (Meets start tv off w need) (Wanted n start tv off w need d dear k caps) q r ok (λ x _ u. u .meets) c)
 
 pub tells-yes : (n : ℕ) (W : (ℕ → ℕ) → Type 0) (p : Part) → W (of p) → Tells n W p true
 tells-yes n W p f = record { yes = λ _. f; no = λ e. absurd (let z : _≡_ {A = ℕ} 0 1 = cc in omega arith) }

@@ -1,5 +1,5 @@
-use narrowing::Part;
 use narrowing::Cut;
+use narrowing::Part;
 ghost use mathlib.Core.Bool.{true, false};
 ghost use Prim.Native.Nat.{_+_, _-_, _*_, _<_, _≤_};
 ghost use lib.ListN.{length, getD};
@@ -23,7 +23,20 @@ pub fn bar(n: usize, dear: &[u8], o: usize, v: usize, lim: u64, res: &[u64], p: 
 }
 
 // What the cap of one objective forces.
-pub fn force(n: usize, start: &[usize], tv: &[usize], off: &[u8], w: &[u64], need: &[u64], d: &[u64], dear: &[u8], o: usize, cap: u64, res: &mut [u64], p: Part) -> Cut
+pub fn force(
+    n: usize,
+    start: &[usize],
+    tv: &[usize],
+    off: &[u8],
+    w: &[u64],
+    need: &[u64],
+    d: &[u64],
+    dear: &[u8],
+    o: usize,
+    cap: u64,
+    res: &mut [u64],
+    p: Part,
+) -> Cut
     requires { ⌜ Table n (now start) (now tv) (now off) (now w) (now need) × Costs n (now d) (now dear) o × (n ≤ length (now res)) × Good n p ⌝ }
     ensures { λ r. ⌜ Cuts n (Under n (now (start .entry)) (now (tv .entry)) (now (off .entry)) (now (w .entry)) (now (need .entry)) (now (d .entry)) (now (dear .entry)) o cap) p (r .ok) (r .part) ⌝ }
 {
@@ -42,7 +55,20 @@ pub fn force(n: usize, start: &[usize], tv: &[usize], off: &[u8], w: &[u64], nee
 }
 
 // What the caps force, one objective after the other.
-pub fn forces(n: usize, start: &[usize], tv: &[usize], off: &[u8], w: &[u64], need: &[u64], d: &[u64], dear: &[u8], k: usize, caps: &[u64], res: &mut [u64], p: Part) -> Cut
+pub fn forces(
+    n: usize,
+    start: &[usize],
+    tv: &[usize],
+    off: &[u8],
+    w: &[u64],
+    need: &[u64],
+    d: &[u64],
+    dear: &[u8],
+    k: usize,
+    caps: &[u64],
+    res: &mut [u64],
+    p: Part,
+) -> Cut
     requires { ⌜ Table n (now start) (now tv) (now off) (now w) (now need) × Objectives n k (now d) (now dear) (now caps) × (n ≤ length (now res)) × Good n p ⌝ }
     ensures { λ r. ⌜ Cuts n (Wanted n (now (start .entry)) (now (tv .entry)) (now (off .entry)) (now (w .entry)) (now (need .entry)) (now (d .entry)) (now (dear .entry)) k (now (caps .entry))) p (r .ok) (r .part) ⌝ }
 {
@@ -61,7 +87,20 @@ pub fn forces(n: usize, start: &[usize], tv: &[usize], off: &[u8], w: &[u64], ne
 }
 
 // Rows and caps, until nothing more is forced.
-pub fn reduce(n: usize, start: &[usize], tv: &[usize], off: &[u8], w: &[u64], need: &[u64], d: &[u64], dear: &[u8], k: usize, caps: &[u64], res: &mut [u64], p: Part) -> Cut
+pub fn reduce(
+    n: usize,
+    start: &[usize],
+    tv: &[usize],
+    off: &[u8],
+    w: &[u64],
+    need: &[u64],
+    d: &[u64],
+    dear: &[u8],
+    k: usize,
+    caps: &[u64],
+    res: &mut [u64],
+    p: Part,
+) -> Cut
     requires { ⌜ Table n (now start) (now tv) (now off) (now w) (now need) × Objectives n k (now d) (now dear) (now caps) × (n ≤ length (now res)) × Good n p ⌝ }
     ensures { λ r. ⌜ Cuts n (Wanted n (now (start .entry)) (now (tv .entry)) (now (off .entry)) (now (w .entry)) (now (need .entry)) (now (d .entry)) (now (dear .entry)) k (now (caps .entry))) p (r .ok) (r .part) ⌝ }
 {
@@ -114,7 +153,15 @@ pub fn branch(n: usize, order: &[usize], p: Part) -> usize
 }
 
 // Whether every row can still be met.
-pub fn met(n: usize, start: &[usize], tv: &[usize], off: &[u8], w: &[u64], need: &[u64], p: Part) -> bool
+pub fn met(
+    n: usize,
+    start: &[usize],
+    tv: &[usize],
+    off: &[u8],
+    w: &[u64],
+    need: &[u64],
+    p: Part,
+) -> bool
     requires { ⌜ Table n (now start) (now tv) (now off) (now w) (now need) ⌝ }
     ensures { λ r. ⌜ Tells n (Meets (now (start .entry)) (now (tv .entry)) (now (off .entry)) (now (w .entry)) (now (need .entry))) p r ⌝ }
 {
@@ -146,7 +193,19 @@ pub fn cheap(n: usize, d: &[u64], dear: &[u8], k: usize, caps: &[u64], p: Part) 
 }
 
 // Whether p is wanted, if it is complete.
-pub fn wanted(n: usize, start: &[usize], tv: &[usize], off: &[u8], w: &[u64], need: &[u64], d: &[u64], dear: &[u8], k: usize, caps: &[u64], p: Part) -> bool
+pub fn wanted(
+    n: usize,
+    start: &[usize],
+    tv: &[usize],
+    off: &[u8],
+    w: &[u64],
+    need: &[u64],
+    d: &[u64],
+    dear: &[u8],
+    k: usize,
+    caps: &[u64],
+    p: Part,
+) -> bool
     requires { ⌜ Table n (now start) (now tv) (now off) (now w) (now need) × Objectives n k (now d) (now dear) (now caps) ⌝ }
     ensures { λ r. ⌜ Tells n (Wanted n (now (start .entry)) (now (tv .entry)) (now (off .entry)) (now (w .entry)) (now (need .entry)) (now (d .entry)) (now (dear .entry)) k (now (caps .entry))) p r ⌝ }
 {
@@ -157,7 +216,21 @@ pub fn wanted(n: usize, start: &[usize], tv: &[usize], off: &[u8], w: &[u64], ne
 }
 
 // A wanted completion of p, if there is one.
-pub fn find(n: usize, start: &[usize], tv: &[usize], off: &[u8], w: &[u64], need: &[u64], d: &[u64], dear: &[u8], k: usize, caps: &[u64], order: &[usize], res: &mut [u64], p: Part) -> Cut
+pub fn find(
+    n: usize,
+    start: &[usize],
+    tv: &[usize],
+    off: &[u8],
+    w: &[u64],
+    need: &[u64],
+    d: &[u64],
+    dear: &[u8],
+    k: usize,
+    caps: &[u64],
+    order: &[usize],
+    res: &mut [u64],
+    p: Part,
+) -> Cut
     requires { ⌜ Table n (now start) (now tv) (now off) (now w) (now need) × Objectives n k (now d) (now dear) (now caps) × (n ≤ length (now res)) × Good n p ⌝ }
     ensures { λ r. ⌜ Finds n (Wanted n (now (start .entry)) (now (tv .entry)) (now (off .entry)) (now (w .entry)) (now (need .entry)) (now (d .entry)) (now (dear .entry)) k (now (caps .entry))) p (r .ok) (r .part) ⌝ }
 {
@@ -172,10 +245,38 @@ pub fn find(n: usize, start: &[usize], tv: &[usize], off: &[u8], w: &[u64], need
         let yes = wanted(n, start, tv, off, w, need, d, dear, k, caps, q);
         return Cut { ok: yes, part: q };
     }
-    let first = find(n, start, tv, off, w, need, d, dear, k, caps, order, res, narrowing::put(n, q, v, 0));
+    let first = find(
+        n,
+        start,
+        tv,
+        off,
+        w,
+        need,
+        d,
+        dear,
+        k,
+        caps,
+        order,
+        res,
+        narrowing::put(n, q, v, 0),
+    );
     let got = first.ok;
     if got {
         return first;
     }
-    find(n, start, tv, off, w, need, d, dear, k, caps, order, res, narrowing::put(n, q, v, 1))
+    find(
+        n,
+        start,
+        tv,
+        off,
+        w,
+        need,
+        d,
+        dear,
+        k,
+        caps,
+        order,
+        res,
+        narrowing::put(n, q, v, 1),
+    )
 }

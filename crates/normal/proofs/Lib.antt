@@ -2,3 +2,5 @@
 pub mod HalfLaws
 pub mod RowLaws
 pub mod SideLaws
+pub mod LaidLaws
+pub mod NeedLaws

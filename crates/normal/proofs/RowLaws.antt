@@ -101,7 +101,7 @@ together x y h k = ⊎-elim (λ z. le-from (near z)) (λ z. le-from (near′ z))
 
 -- a margin by a kind that is known
 margin-as : (e : Entry) (a : ℕ) {p q : Bool} → eqb (e .kind) 2 ≡ p → eqb (e .kind) 3 ≡ q
-  → margin e a ≡ cond p (sum (e .terms) a -ℤ e .bound) (cond q (e .bound -ℤ sum (e .terms) a) (negℤ (pos (natAbs (sum (e .terms) a -ℤ e .bound)))))
+    → margin e a ≡ cond p (sum (e .terms) a -ℤ e .bound) (cond q (e .bound -ℤ sum (e .terms) a) (negℤ (pos (natAbs (sum (e .terms) a -ℤ e .bound)))))
 margin-as e a {p} {q} h k =
     ap₂ (λ (x y : Bool). cond x (sum (e .terms) a -ℤ e .bound) (cond y (e .bound -ℤ sum (e .terms) a) (negℤ (pos (natAbs (sum (e .terms) a -ℤ e .bound)))))) h k
 
@@ -138,7 +138,7 @@ module _ (e : Entry) (a : ℕ) where
   held-margin h lo hi = by (e .kind) refl lo hi
     where
       back : (p q : Bool) → eqb (e .kind) 2 ≡ p → eqb (e .kind) 3 ≡ q
-        → pos 0 ≤ℤ cond p (sum (e .terms) a -ℤ e .bound) (cond q (e .bound -ℤ sum (e .terms) a) (negℤ (pos (natAbs (sum (e .terms) a -ℤ e .bound))))) → pos 0 ≤ℤ margin e a
+          → pos 0 ≤ℤ cond p (sum (e .terms) a -ℤ e .bound) (cond q (e .bound -ℤ sum (e .terms) a) (negℤ (pos (natAbs (sum (e .terms) a -ℤ e .bound))))) → pos 0 ≤ℤ margin e a
       back p q x y z = subst (λ (w : ℤ). pos 0 ≤ℤ w) (sym (margin-as e a x y)) z
 
       by : (k : ℕ) → e .kind ≡ k → 2 ≤ k → k ≤ 4 → pos 0 ≤ℤ margin e a

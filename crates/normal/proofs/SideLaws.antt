@@ -37,5 +37,5 @@ plain-side (negsuc n) negative h = absurd (subst T h tt)
 -- ---- halfOf
 
 pub half-as : (turn : Bool) (t : Term) {v o w l : ℕ} → v ≡ natAbs (t .lit) - 1 → o ≡ offSide (t .lit) (isNegative turn (t .coef)) → w ≡ natAbs (t .coef)
-  → l ≡ cond (isNegative turn (t .coef)) (natAbs (t .coef)) 0 → _≡_ {A = Half} (record { variable = v; off = o; weight = w; lost = l }) (halfOf turn t)
+    → l ≡ cond (isNegative turn (t .coef)) (natAbs (t .coef)) 0 → _≡_ {A = Half} (record { variable = v; off = o; weight = w; lost = l }) (halfOf turn t)
 half-as turn t p q r s = λ i. record { variable = p i; off = q i; weight = r i; lost = s i }

@@ -65,8 +65,11 @@ atLeastZero (pos n) = n
 atLeastZero (negsuc n) = 0
 
 -- What a half row needs: the bound with what was added, 0 where that is below 0.
+abbrev pub needBy : Bool → ℤ → ℕ → ℕ
+needBy turn bound lost = atLeastZero (turned turn bound +ℤ pos lost)
+
 abbrev pub needOf : Bool → Entry → ℕ
-needOf turn e = atLeastZero (turned turn (e .bound) +ℤ pos (lostAll (halvesOf turn e)))
+needOf turn e = needBy turn (e .bound) (lostAll (halvesOf turn e))
 
 -- A half row is met.
 abbrev pub HalfMet : Bool → Entry → ℕ → Type 0

@@ -1,2 +1,3 @@
--- An instance in natural numbers. Read Halves (half rows).
+-- An instance in natural numbers. Read Halves (half rows), then Rows (how they are laid out).
 pub mod Halves
+pub mod Rows

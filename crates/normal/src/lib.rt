@@ -1,8 +1,9 @@
 // An instance in natural numbers: each row as one or two half rows, sums of weights that must reach a need.
 // Signed numbers end here: what searches for points counts in natural numbers alone. Read specs/Halves.antt.
+pub mod rows; // rows.rt: half rows laid out in runs
+
 use instance::Term;
 use instance::signed::magnitude32;
-
 ghost use mathlib.Core.Path.{_≡_};
 ghost use Prim.Native.Nat.{_≤_};
 ghost use lib.IntN.{natAbs};

@@ -14,7 +14,7 @@ use Rattle.words.proofs.ByteLaws.{or-neither}
 use mir.Syntax.{Width, w64}
 use mir.Val.{SFits, toZ, ofZ, hbits}
 use mir.Facts.{toZ-ofZ}
-use Rattle.integers.proofs.SignedLaws.{fits-as, read-as, sfits-abs}
+use Rattle.integers.proofs.SignedLaws.{fits-as, read-as, sfits-abs, bits-value}
 use Rattle.instance.specs.Limits.{maxTerms, maxCoef, maxVariable, termRoom, rowRoom}
 use Rattle.instance.specs.Terms.{Term}
 use Rattle.instance.specs.Layout.{termTable, rowTable, termNumbers, allTerms, entryNumbers}
@@ -32,9 +32,6 @@ sign-abs true (suc n) = refl
 
 pub value-abs : (x : Number) → natAbs (value x) ≡ x .size
 value-abs x = sign-abs (x .negative) (x .size)
-
-pub bits-value : (w : Width) (n : ℕ) → n < 2 ^ hbits w → toZ w n ≡ pos n
-bits-value w n h = toZ-ofZ {w = w} {z = pos n} (record { sfits = h })
 
 module _ (w : Width) (x : Number) (h : x .size < 2 ^ hbits w) where
   pub value-fits : SFits w (value x)

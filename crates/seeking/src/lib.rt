@@ -1,5 +1,5 @@
-use narrowing::Part;
 use narrowing::Cut;
+use narrowing::Part;
 ghost use mathlib.Core.Path.{_≡_};
 ghost use mathlib.Core.Bool.{true, false};
 ghost use Prim.Native.Nat.{ℕ, _+_, _-_, _*_, _<_, _≤_};
@@ -23,7 +23,25 @@ pub fn widen(n: usize, d: &[u64], dear: &[u8], k: usize, p: Part, lb: &mut [u64]
 }
 
 // Rows, caps and charges, until nothing more is forced.
-pub fn reduce(n: usize, start: &[usize], tv: &[usize], off: &[u8], w: &[u64], need: &[u64], d: &[u64], dear: &[u8], k: usize, l: &[u64], m: usize, have: bool, top: &[u64], res: &mut [u64], lb: &mut [u64], cap: &mut [u64], p: Part) -> Cut
+pub fn reduce(
+    n: usize,
+    start: &[usize],
+    tv: &[usize],
+    off: &[u8],
+    w: &[u64],
+    need: &[u64],
+    d: &[u64],
+    dear: &[u8],
+    k: usize,
+    l: &[u64],
+    m: usize,
+    have: bool,
+    top: &[u64],
+    res: &mut [u64],
+    lb: &mut [u64],
+    cap: &mut [u64],
+    p: Part,
+) -> Cut
     requires { ⌜ Table n (now start) (now tv) (now off) (now w) (now need) × Sizes n k m (now d) (now dear) (now l) (now top) (now lb) (now cap) (now res) × Good n p ⌝ }
     ensures { λ r. ⌜ Cuts n (Want n (now (start .entry)) (now (tv .entry)) (now (off .entry)) (now (w .entry)) (now (need .entry)) (now (d .entry)) (now (dear .entry)) k (now (l .entry)) m have (now (top .entry))) p (r .ok) (r .part) ⌝ }
 {
@@ -36,7 +54,25 @@ pub fn reduce(n: usize, start: &[usize], tv: &[usize], off: &[u8], w: &[u64], ne
             return c;
         }
         let s = c.part;
-        let fine = capping::caps(n, start, tv, off, w, need, d, dear, k, l, m, have, top, s, res, lb, cap);
+        let fine = capping::caps(
+            n,
+            start,
+            tv,
+            off,
+            w,
+            need,
+            d,
+            dear,
+            k,
+            l,
+            m,
+            have,
+            top,
+            s,
+            res,
+            lb,
+            cap,
+        );
         if !fine {
             return Cut { ok: false, part: s };
         }
@@ -126,7 +162,24 @@ pub fn copy(k: usize, f: &[u64], g: &mut [u64])
 }
 
 // A complete q takes the incumbent's place, if it is fit and comes before it.
-pub fn leaf(n: usize, start: &[usize], tv: &[usize], off: &[u8], w: &[u64], need: &[u64], d: &[u64], dear: &[u8], k: usize, l: &[u64], m: usize, lb: &mut [u64], cap: &mut [u64], top: &mut [u64], q: Part, inc: Cut) -> Cut
+pub fn leaf(
+    n: usize,
+    start: &[usize],
+    tv: &[usize],
+    off: &[u8],
+    w: &[u64],
+    need: &[u64],
+    d: &[u64],
+    dear: &[u8],
+    k: usize,
+    l: &[u64],
+    m: usize,
+    lb: &mut [u64],
+    cap: &mut [u64],
+    top: &mut [u64],
+    q: Part,
+    inc: Cut,
+) -> Cut
     requires table { ⌜ Table n (now start) (now tv) (now off) (now w) (now need) × ((i : ℕ) → i < k → Costs n (now d) (now dear) (i * n)) × (m * k ≤ length (now l)) × (k ≤ length (now top)) × (k ≤ length (now lb)) × (k ≤ length (now cap)) × Completes n (of q) (of q) ⌝ }
     requires holds { ⌜ Holds n (Fit n (now start) (now tv) (now off) (now w) (now need) (now d) (now dear) k (now l) m) k (now d) (now dear) (inc .ok) (inc .part) (now top) ⌝ }
     ensures { λ r. ⌜ Best n (Fit n (now (start .entry)) (now (tv .entry)) (now (off .entry)) (now (w .entry)) (now (need .entry)) (now (d .entry)) (now (dear .entry)) k (now (l .entry)) m) k (now (d .entry)) (now (dear .entry)) q (inc .ok) (now (top .entry)) (r .ok) (r .part) (now (top .exit)) ⌝ }
@@ -147,13 +200,50 @@ pub fn leaf(n: usize, start: &[usize], tv: &[usize], off: &[u8], w: &[u64], need
 }
 
 // The least of the incumbent and of what is fit below p. `top` is the incumbent's vector.
-pub fn search(n: usize, start: &[usize], tv: &[usize], off: &[u8], w: &[u64], need: &[u64], d: &[u64], dear: &[u8], k: usize, l: &[u64], m: usize, order: &[usize], res: &mut [u64], lb: &mut [u64], cap: &mut [u64], top: &mut [u64], p: Part, inc: Cut) -> Cut
+pub fn search(
+    n: usize,
+    start: &[usize],
+    tv: &[usize],
+    off: &[u8],
+    w: &[u64],
+    need: &[u64],
+    d: &[u64],
+    dear: &[u8],
+    k: usize,
+    l: &[u64],
+    m: usize,
+    order: &[usize],
+    res: &mut [u64],
+    lb: &mut [u64],
+    cap: &mut [u64],
+    top: &mut [u64],
+    p: Part,
+    inc: Cut,
+) -> Cut
     requires table { ⌜ Table n (now start) (now tv) (now off) (now w) (now need) × Sizes n k m (now d) (now dear) (now l) (now top) (now lb) (now cap) (now res) × Good n p ⌝ }
     requires holds { ⌜ Holds n (Fit n (now start) (now tv) (now off) (now w) (now need) (now d) (now dear) k (now l) m) k (now d) (now dear) (inc .ok) (inc .part) (now top) ⌝ }
     ensures { λ r. ⌜ Best n (Fit n (now (start .entry)) (now (tv .entry)) (now (off .entry)) (now (w .entry)) (now (need .entry)) (now (d .entry)) (now (dear .entry)) k (now (l .entry)) m) k (now (d .entry)) (now (dear .entry)) p (inc .ok) (now (top .entry)) (r .ok) (r .part) (now (top .exit)) ⌝ }
 {
     let have = inc.ok;
-    let c = reduce(n, start, tv, off, w, need, d, dear, k, l, m, have, &*top, res, lb, cap, p);
+    let c = reduce(
+        n,
+        start,
+        tv,
+        off,
+        w,
+        need,
+        d,
+        dear,
+        k,
+        l,
+        m,
+        have,
+        &*top,
+        res,
+        lb,
+        cap,
+        p,
+    );
     let ok = c.ok;
     if !ok {
         return inc;
@@ -161,9 +251,63 @@ pub fn search(n: usize, start: &[usize], tv: &[usize], off: &[u8], w: &[u64], ne
     let q = c.part;
     let v = forcing::branch(n, order, q);
     if v == n {
-        return leaf(n, start, tv, off, w, need, d, dear, k, l, m, lb, cap, top, q, inc);
+        return leaf(
+            n,
+            start,
+            tv,
+            off,
+            w,
+            need,
+            d,
+            dear,
+            k,
+            l,
+            m,
+            lb,
+            cap,
+            top,
+            q,
+            inc,
+        );
     }
-    let first = search(n, start, tv, off, w, need, d, dear, k, l, m, order, res, lb, cap, top, narrowing::put(n, q, v, 0), inc);
-    search(n, start, tv, off, w, need, d, dear, k, l, m, order, res, lb, cap, top, narrowing::put(n, q, v, 1), first)
+    let first = search(
+        n,
+        start,
+        tv,
+        off,
+        w,
+        need,
+        d,
+        dear,
+        k,
+        l,
+        m,
+        order,
+        res,
+        lb,
+        cap,
+        top,
+        narrowing::put(n, q, v, 0),
+        inc,
+    );
+    search(
+        n,
+        start,
+        tv,
+        off,
+        w,
+        need,
+        d,
+        dear,
+        k,
+        l,
+        m,
+        order,
+        res,
+        lb,
+        cap,
+        top,
+        narrowing::put(n, q, v, 1),
+        first,
+    )
 }
-

@@ -47,7 +47,7 @@ shared-slice-read-if1 : tie.Need-shared-slice-read-if1 Inv-loop μ-loop
 shared-slice-read-if1 c = search needs
 
 returns : tie.Need-returns Inv-loop μ-loop
-returns c = let s = c .before .before .before .before .before .before .before .before .before .before .before .before in let a = s .args in let t = s .pre in let l = c .before .before .before .before .before .before .loop in let i : l .h < length (a .need .now) = omega arith in let r = t .rising (l .h) i in let z = t .inside (l .h) i in tells-no (a .n) (Meets (a .start .now) (a .tv .now) (a .off .now) (a .w .now) (a .need .now) ) (a .p) (hopeless (a .n) (a .start .now) (a .tv .now) (a .off .now) (a .w .now) (a .need .now)  t (of (a .p)) (l .h) i (rw (c .before .before .reach .ensures) at (c .if1 .taken)))
+returns c = let s = c .before .before .before .before .before .before .before .before .before .before .before .before in let a = s .args in let t = s .pre in let l = c .before .before .before .before .before .before .loop in let i : l .h < length (a .need .now) = omega arith in let r = t .rising (l .h) i in let z = t .inside (l .h) i in tells-no (a .n) (Meets (a .start .now) (a .tv .now) (a .off .now) (a .w .now) (a .need .now)) (a .p) (hopeless (a .n) (a .start .now) (a .tv .now) (a .off .now) (a .w .now) (a .need .now) t (of (a .p)) (l .h) i (rw (c .before .before .reach .ensures) at (c .if1 .taken)))
 
 add-h : tie.Need-add-h Inv-loop μ-loop
 add-h c = search needs
@@ -59,7 +59,7 @@ loop-again : tie.Need-loop-again Inv-loop μ-loop
 loop-again c = let s = c .before .before .before .before .before .before .before .before .before .before .before .before in let a = s .args in let t = s .pre in let l = c .before .before .before .before .before .before .loop in (omega arith, below-more _ _ (l .inv .1) (rw (c .before .before .reach .ensures) at (c .if1 .left)))
 
 returns-2 : tie.Need-returns-2 Inv-loop μ-loop
-returns-2 c = let s = c .before .before .before .before .before .before .before in let a = s .args in let t = s .pre in let l = c .before .loop in tells-yes (a .n) (Meets (a .start .now) (a .tv .now) (a .off .now) (a .w .now) (a .need .now) ) (a .p) (λ i h. l .inv .1 i (omega arith))
+returns-2 c = let s = c .before .before .before .before .before .before .before in let a = s .args in let t = s .pre in let l = c .before .loop in tells-yes (a .n) (Meets (a .start .now) (a .tv .now) (a .off .now) (a .w .now) (a .need .now)) (a .p) (λ i h. l .inv .1 i (omega arith))
 
 pub met-spec : {M : Type 1} → statement M
 met-spec =
