@@ -4,3 +4,4 @@ pub mod RowLaws
 pub mod SideLaws
 pub mod LaidLaws
 pub mod NeedLaws
+pub mod AddLaws

@@ -7,7 +7,7 @@ ghost use lib.IntN.{natAbs};
 ghost use lib.ListN.{length};
 ghost use Rattle.instance.specs.Limits.{maxTerms, maxBound, termRoom};
 ghost use Rattle.instance.specs.Parts.{TermsOk};
-ghost use Rattle.normal.specs.Rows.{HalfPut};
+ghost use Rattle.normal.specs.Rows.{halfRowAt, HalfPut, Room, Added};
 ghost use Rattle.normal.specs.Halves.{turned, needBy};
 
 // Lays the `count` terms from `first` on out from place `at` on, each as a term of a half row; answers what was added for all.
@@ -62,4 +62,31 @@ pub fn need_of(turn: bool, bound: i64, lost: u64) -> u64
         return 0;
     }
     need as u64
+}
+
+// Lays one half row out: its terms from place `used` on, its need and where the next one begins. `halves` stand before it.
+pub fn add_half(
+    terms: &[i32],
+    first: usize,
+    count: usize,
+    turn: bool,
+    bound: i64,
+    halves: usize,
+    used: usize,
+    starts: &mut [usize],
+    variables: &mut [usize],
+    offs: &mut [u8],
+    weights: &mut [u64],
+    needs: &mut [u64],
+)
+    requires { ⌜ termRoom ≤ length (now terms) ⌝ }
+    requires { ⌜ first + count ≤ maxTerms ⌝ }
+    requires { ⌜ TermsOk (now terms) (first + count) ⌝ }
+    requires { ⌜ natAbs bound ≤ maxBound ⌝ }
+    requires { ⌜ Room (now starts) (now variables) (now offs) (now weights) (now needs) halves used count ⌝ }
+    ensures { λ _. ⌜ Added (halfRowAt (now (terms .entry)) first count turn bound) (now (starts .entry)) (now (starts .exit)) (now (variables .entry)) (now (variables .exit)) (now (offs .entry)) (now (offs .exit)) (now (weights .entry)) (now (weights .exit)) (now (needs .entry)) (now (needs .exit)) halves used ⌝ }
+{
+    let lost = put_half(terms, first, count, turn, used, variables, offs, weights);
+    needs[halves] = need_of(turn, bound, lost);
+    starts[halves + 1] = used + count;
 }
