@@ -5,3 +5,4 @@ pub mod SideLaws
 pub mod LaidLaws
 pub mod NeedLaws
 pub mod AddLaws
+pub mod GrownLaws

@@ -1,0 +1,51 @@
+// The rows of an instance as half rows, one after the other.
+use crate::rows::add_half;
+use instance::Entry;
+
+ghost use Prim.Native.Nat.{_+_, _≤_};
+ghost use lib.IntN.{natAbs};
+ghost use lib.ListN.{length};
+ghost use Rattle.instance.specs.Limits.{maxTerms, maxBound, termRoom};
+ghost use Rattle.instance.specs.Parts.{TermsOk};
+ghost use Rattle.normal.specs.Rows.{halfRowAt, Room};
+ghost use Rattle.normal.specs.Grown.{ifWanted, Grown};
+
+// How far the runs are filled: half rows, and terms of them.
+pub struct Filled {
+    pub halves: usize,
+    pub used: usize,
+}
+
+// Lays one half row out if it is wanted.
+pub fn add_if(
+    want: bool,
+    terms: &[i32],
+    first: usize,
+    count: usize,
+    turn: bool,
+    bound: i64,
+    at: Filled,
+    starts: &mut [usize],
+    variables: &mut [usize],
+    offs: &mut [u8],
+    weights: &mut [u64],
+    needs: &mut [u64],
+) -> Filled
+    requires { ⌜ termRoom ≤ length (now terms) ⌝ }
+    requires { ⌜ first + count ≤ maxTerms ⌝ }
+    requires { ⌜ TermsOk (now terms) (first + count) ⌝ }
+    requires { ⌜ natAbs bound ≤ maxBound ⌝ }
+    requires { ⌜ Room (now starts) (now variables) (now offs) (now weights) (now needs) (at .halves) (at .used) count ⌝ }
+    ensures { λ r. ⌜ Grown (ifWanted want (halfRowAt (now (terms .entry)) first count turn bound)) (now (starts .entry)) (now (starts .exit)) (now (variables .entry)) (now (variables .exit)) (now (offs .entry)) (now (offs .exit)) (now (weights .entry)) (now (weights .exit)) (now (needs .entry)) (now (needs .exit)) (at .halves) (at .used) (r .halves) (r .used) ⌝ }
+{
+    if !want {
+        return at;
+    }
+    let halves = at.halves;
+    let used = at.used;
+    add_half(terms, first, count, turn, bound, halves, used, starts, variables, offs, weights, needs);
+    Filled {
+        halves: halves + 1,
+        used: used + count,
+    }
+}
