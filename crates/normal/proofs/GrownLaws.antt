@@ -10,8 +10,8 @@ use mir.Syntax.{w64}
 use mir.Val.{SFits, toZ, ofZ}
 use mir.Facts.{toZ-ofZ}
 use Rattle.normal.specs.declared.Half.{Half}
-use Rattle.normal.specs.Rows.{HalfRow, halfRowAt, allHalves, Laid, Added}
-use Rattle.normal.specs.Grown.{Grown, ifWanted}
+use Rattle.normal.specs.Rows.{HalfRow, halfRowAt, allHalves, Laid, Room, Added}
+use Rattle.normal.specs.Grown.{Grown, Rooms, ifWanted}
 use Rattle.normal.proofs.LaidLaws.{halves-length}
 
 pub allHalves-append : (xs ys : List HalfRow) → allHalves (xs ++ ys) ≡ allHalves xs ++ allHalves ys
@@ -82,3 +82,40 @@ pub grown-half : (ts : List ℤ) (first count : ℕ) (turn : Bool) (bound : ℤ)
 grown-half ts first count turn bound f {starts} {starts′} {vs} {vs′} {os} {os′} {ws} {ws′} {needs} {needs′} {halves} {used} a =
     grown-one (subst (λ (z : ℤ). Added (halfRowAt ts first count turn z) starts starts′ vs vs′ os os′ ws ws′ needs needs′ halves used) (toZ-ofZ f) a) refl
     (ap (λ (n : ℕ). used + n) (sym (halves-length ts first count turn)))
+
+-- the same, of a half row whose bound is read back of its bits
+pub grown-bound : (ts : List ℤ) (first count : ℕ) (turn want : Bool) {bound : ℤ} → SFits w64 bound → {starts starts′ vs vs′ os os′ ws ws′ needs needs′ : List ℕ} {halves used halves′ used′ : ℕ}
+  → Grown (ifWanted want (halfRowAt ts first count turn (toZ w64 (ofZ w64 bound)))) starts starts′ vs vs′ os os′ ws ws′ needs needs′ halves used halves′ used′
+  → Grown (ifWanted want (halfRowAt ts first count turn bound)) starts starts′ vs vs′ os os′ ws ws′ needs needs′ halves used halves′ used′
+grown-bound ts first count turn want f {starts} {starts′} {vs} {vs′} {os} {os′} {ws} {ws′} {needs} {needs′} {halves} {used} {halves′} {used′} g =
+    subst (λ (z : ℤ). Grown (ifWanted want (halfRowAt ts first count turn z)) starts starts′ vs vs′ os os′ ws ws′ needs needs′ halves used halves′ used′) (toZ-ofZ f) g
+
+-- a half row at most, and its terms at most
+wanted-few : (want : Bool) (r : HalfRow) → (length (ifWanted want r) ≤ 1) × (length (allHalves (ifWanted want r)) ≤ length (r .terms))
+unfolding allHalves
+wanted-few true r = (omega arith, omega (arith, ap length (append-nil (r .terms))))
+wanted-few false r = (omega arith, omega arith)
+
+-- after the first half row there is room for the second
+pub room-left : (ts : List ℤ) (first count : ℕ) (turn want : Bool) (bound : ℤ) {starts starts′ vs vs′ os os′ ws ws′ needs needs′ : List ℕ} {halves used halves′ used′ : ℕ}
+  → Rooms starts vs os ws needs (halves + 2) (used + (count + count))
+  → Grown (ifWanted want (halfRowAt ts first count turn bound)) starts starts′ vs vs′ os os′ ws ws′ needs needs′ halves used halves′ used′ → Room starts′ vs′ os′ ws′ needs′ halves′ used′ count
+room-left ts first count turn want bound m g =
+    let w = wanted-few want (halfRowAt ts first count turn bound) in
+    let l = halves-length ts first count turn in
+    record {
+      starts-room = omega (arith, m .starts-room, g .starts-same, g .halves-more, w .0);
+      variables-room = omega (arith, m .variables-room, g .variables-same, g .used-more, w .1, l);
+      offs-room = omega (arith, m .offs-room, g .offs-same, g .used-more, w .1, l);
+      weights-room = omega (arith, m .weights-room, g .weights-same, g .used-more, w .1, l);
+      needs-room = omega (arith, m .needs-room, g .needs-same, g .halves-more, w .0);
+    }
+
+pub room-first : {starts vs os ws needs : List ℕ} {halves used count : ℕ} → Rooms starts vs os ws needs (halves + 2) (used + (count + count)) → Room starts vs os ws needs halves used count
+room-first m = record {
+  starts-room = omega (arith, m .starts-room);
+  variables-room = omega (arith, m .variables-room);
+  offs-room = omega (arith, m .offs-room);
+  weights-room = omega (arith, m .weights-room);
+  needs-room = omega (arith, m .needs-room);
+}

@@ -33,3 +33,16 @@ pub record Grown (rs : List HalfRow) (starts starts′ vs vs′ os os′ ws ws�
   pub halves-more : halves′ ≡ halves + length rs
   pub used-more : used′ ≡ used + length (allHalves rs)
   pub more : (hs : List HalfRow) → Laid hs starts vs os ws needs halves used → Laid (hs ++ rs) starts′ vs′ os′ ws′ needs′ halves′ used′
+
+-- The half rows of rows, in order.
+unfoldable pub halfRowsAll : List Entry → List HalfRow
+halfRowsAll [] = []
+halfRowsAll (e ∷ es) = halfRowsOf e ++ halfRowsAll es
+
+-- The runs have room for `halves` half rows and `used` terms of them.
+pub record Rooms (starts vs os ws needs : List ℕ) (halves used : ℕ) : Type 0 where
+  pub starts-room : halves + 1 ≤ length starts
+  pub variables-room : used ≤ length vs
+  pub offs-room : used ≤ length os
+  pub weights-room : used ≤ length ws
+  pub needs-room : halves ≤ length needs

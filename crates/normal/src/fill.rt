@@ -7,8 +7,9 @@ ghost use lib.IntN.{natAbs};
 ghost use lib.ListN.{length};
 ghost use Rattle.instance.specs.Limits.{maxTerms, maxBound, termRoom};
 ghost use Rattle.instance.specs.Parts.{TermsOk};
+ghost use Rattle.instance.specs.Structs.{entryOf};
 ghost use Rattle.normal.specs.Rows.{halfRowAt, Room};
-ghost use Rattle.normal.specs.Grown.{ifWanted, Grown};
+ghost use Rattle.normal.specs.Grown.{ifWanted, halfRowsOf, Grown, Rooms};
 
 // How far the runs are filled: half rows, and terms of them.
 pub struct Filled {
@@ -48,4 +49,30 @@ pub fn add_if(
         halves: halves + 1,
         used: used + count,
     }
+}
+
+// Lays the half rows of one row out.
+pub fn add_row(
+    terms: &[i32],
+    e: Entry,
+    at: Filled,
+    starts: &mut [usize],
+    variables: &mut [usize],
+    offs: &mut [u8],
+    weights: &mut [u64],
+    needs: &mut [u64],
+) -> Filled
+    requires { ⌜ termRoom ≤ length (now terms) ⌝ }
+    requires { ⌜ e .first + e .count ≤ maxTerms ⌝ }
+    requires { ⌜ TermsOk (now terms) (e .first + e .count) ⌝ }
+    requires { ⌜ natAbs (e .bound) ≤ maxBound ⌝ }
+    requires { ⌜ Rooms (now starts) (now variables) (now offs) (now weights) (now needs) (at .halves + 2) (at .used + (e .count + e .count)) ⌝ }
+    ensures { λ r. ⌜ Grown (halfRowsOf (entryOf (now (terms .entry)) e)) (now (starts .entry)) (now (starts .exit)) (now (variables .entry)) (now (variables .exit)) (now (offs .entry)) (now (offs .exit)) (now (weights .entry)) (now (weights .exit)) (now (needs .entry)) (now (needs .exit)) (at .halves) (at .used) (r .halves) (r .used) ⌝ }
+{
+    let kind = e.kind;
+    let first = e.first;
+    let count = e.count;
+    let bound = e.bound;
+    let a = add_if(kind != Entry::AT_MOST, terms, first, count, false, bound, at, starts, variables, offs, weights, needs);
+    add_if(kind != Entry::AT_LEAST, terms, first, count, true, bound, a, starts, variables, offs, weights, needs)
 }

@@ -15,7 +15,7 @@ use Rattle.instance.specs.declared.entries.Entry.{Entry as EntryNumbers}
 use Rattle.instance.proofs.InstanceLaws.{entry-terms, entry-inside}
 use Rattle.instance.proofs.MeaningLaws.{instance-entries, instance-within}
 use Rattle.writing.specs.Answers.{textOf}
-use Rattle.writing.specs.Structs.{entryOf}
+use Rattle.instance.specs.Structs.{entryOf}
 use Rattle.writing.specs.Limits.{maxWritten}
 use Rattle.writing.specs.Writing.{statementsText}
 use Rattle.writing.proofs.WithinLaws.{within-length}
