@@ -23,9 +23,12 @@ pub lost-all-le : (ts : List ℤ) (first count : ℕ) (turn : Bool) → TermsOk 
 unfolding tabulate lostAll
 lost-all-le ts first zero turn h = zero-le
 lost-all-le ts first (suc k) turn h =
-    omega (arith, lost-all-le ts first k turn (λ j l. h j (omega arith)),
+    omega (
+      arith,
+      lost-all-le ts first k turn (λ j l. h j (omega arith)),
       ap (λ (n : ℕ). lostAll (halvesAt ts first n turn)) (sym (add-one k)) ∙ ap lostAll (halves-snoc ts first k turn) ∙ lost-snoc (halvesAt ts first k turn) (halfOf turn (termAt ts (first + k))),
-      lost-le turn (termAt ts (first + k)) (h (first + k) (omega arith)))
+      lost-le turn (termAt ts (first + k)) (h (first + k) (omega arith)),
+    )
 
 -- ---- allHalves, startsFrom
 
@@ -53,12 +56,12 @@ take-next l xs i v h e = ap (λ (n : ℕ). take n (set l i v)) (add-one i) ∙ t
 
 -- a run that went on holds the numbers of all terms
 goes-all : (f : Half → ℕ) (hs : List HalfRow) (r : HalfRow) {used : ℕ} {xs xs′ : List ℕ} → Goes f (r .terms) used xs xs′ → take used xs ≡ map f (allHalves hs)
-  → take (used + length (r .terms)) xs′ ≡ map f (allHalves (hs ++ (r ∷ [])))
+    → take (used + length (r .terms)) xs′ ≡ map f (allHalves (hs ++ (r ∷ [])))
 goes-all f hs r g e = g .laid ∙ ap (λ (l : List ℕ). l ++ map f (r .terms)) e ∙ sym (map-append f (allHalves hs) (r .terms)) ∙ ap (map f) (sym (allHalves-snoc hs r))
 
 pub added-is : (ts : List ℤ) (first count : ℕ) (turn : Bool) (bound : ℤ) {starts vs vs′ os os′ ws ws′ needs : List ℕ} {halves used lost need : ℕ}
-  → Room starts vs os ws needs halves used count → HalfPut ts first count turn used vs vs′ os os′ ws ws′ lost → need ≡ needBy turn bound lost
-  → Added (halfRowAt ts first count turn bound) starts (set starts (halves + 1) (used + count)) vs vs′ os os′ ws ws′ needs (set needs halves need) halves used
+    → Room starts vs os ws needs halves used count → HalfPut ts first count turn used vs vs′ os os′ ws ws′ lost → need ≡ needBy turn bound lost
+    → Added (halfRowAt ts first count turn bound) starts (set starts (halves + 1) (used + count)) vs vs′ os os′ ws ws′ needs (set needs halves need) halves used
 added-is ts first count turn bound {starts} {vs} {vs′} {os} {os′} {ws} {ws′} {needs} {halves} {used} {lost} {need} room p e = record {
   starts-same = simp length-set;
   variables-same = p .variables .same;

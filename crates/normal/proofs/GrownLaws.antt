@@ -35,8 +35,8 @@ grown-none starts vs os ws needs halves used = record {
 
 -- one more
 pub grown-one : {r : HalfRow} {starts starts′ vs vs′ os os′ ws ws′ needs needs′ : List ℕ} {halves used halves′ used′ : ℕ}
-  → Added r starts starts′ vs vs′ os os′ ws ws′ needs needs′ halves used → halves′ ≡ halves + 1 → used′ ≡ used + length (r .terms)
-  → Grown (r ∷ []) starts starts′ vs vs′ os os′ ws ws′ needs needs′ halves used halves′ used′
+    → Added r starts starts′ vs vs′ os os′ ws ws′ needs needs′ halves used → halves′ ≡ halves + 1 → used′ ≡ used + length (r .terms)
+    → Grown (r ∷ []) starts starts′ vs vs′ os os′ ws ws′ needs needs′ halves used halves′ used′
 unfolding allHalves
 grown-one {r} {starts} {starts′} {vs} {vs′} {os} {os′} {ws} {ws′} {needs} {needs′} {halves} {used} {halves′} {used′} a e f = record {
   starts-same = a .starts-same;
@@ -52,8 +52,8 @@ grown-one {r} {starts} {starts′} {vs} {vs′} {os} {os′} {ws} {ws′} {needs
 
 -- some, and then others
 pub grown-then : {xs ys : List HalfRow} {starts starts′ starts″ vs vs′ vs″ os os′ os″ ws ws′ ws″ needs needs′ needs″ : List ℕ} {halves used halves′ used′ halves″ used″ : ℕ}
-  → Grown xs starts starts′ vs vs′ os os′ ws ws′ needs needs′ halves used halves′ used′ → Grown ys starts′ starts″ vs′ vs″ os′ os″ ws′ ws″ needs′ needs″ halves′ used′ halves″ used″
-  → Grown (xs ++ ys) starts starts″ vs vs″ os os″ ws ws″ needs needs″ halves used halves″ used″
+    → Grown xs starts starts′ vs vs′ os os′ ws ws′ needs needs′ halves used halves′ used′ → Grown ys starts′ starts″ vs′ vs″ os′ os″ ws′ ws″ needs′ needs″ halves′ used′ halves″ used″
+    → Grown (xs ++ ys) starts starts″ vs vs″ os os″ ws ws″ needs needs″ halves used halves″ used″
 grown-then {xs} {ys} {starts} {starts′} {starts″} {vs} {vs′} {vs″} {os} {os′} {os″} {ws} {ws′} {ws″} {needs} {needs′} {needs″} {halves} {used} {halves′} {used′} {halves″} {used″} p q = record {
   starts-same = q .starts-same ∙ p .starts-same;
   variables-same = q .variables-same ∙ p .variables-same;
@@ -67,7 +67,7 @@ grown-then {xs} {ys} {starts} {starts′} {starts″} {vs} {vs′} {vs″} {os} 
 
 -- one more, if it is wanted
 pub grown-wanted : {want : Bool} → want ≡ true → {r : HalfRow} {starts starts′ vs vs′ os os′ ws ws′ needs needs′ : List ℕ} {halves used halves′ used′ : ℕ}
-  → Grown (r ∷ []) starts starts′ vs vs′ os os′ ws ws′ needs needs′ halves used halves′ used′ → Grown (ifWanted want r) starts starts′ vs vs′ os os′ ws ws′ needs needs′ halves used halves′ used′
+    → Grown (r ∷ []) starts starts′ vs vs′ os os′ ws ws′ needs needs′ halves used halves′ used′ → Grown (ifWanted want r) starts starts′ vs vs′ os os′ ws ws′ needs needs′ halves used halves′ used′
 grown-wanted e {r} {starts} {starts′} {vs} {vs′} {os} {os′} {ws} {ws′} {needs} {needs′} {halves} {used} {halves′} {used′} g =
     subst (λ (b : Bool). Grown (ifWanted b r) starts starts′ vs vs′ os os′ ws ws′ needs needs′ halves used halves′ used′) (sym e) g
 
@@ -77,29 +77,29 @@ grown-unwanted e r starts vs os ws needs halves used =
 
 -- one more of the table's terms, its bound read back of its bits
 pub grown-half : (ts : List ℤ) (first count : ℕ) (turn : Bool) (bound : ℤ) → SFits w64 bound → {starts starts′ vs vs′ os os′ ws ws′ needs needs′ : List ℕ} {halves used : ℕ}
-  → Added (halfRowAt ts first count turn (toZ w64 (ofZ w64 bound))) starts starts′ vs vs′ os os′ ws ws′ needs needs′ halves used
-  → Grown (halfRowAt ts first count turn bound ∷ []) starts starts′ vs vs′ os os′ ws ws′ needs needs′ halves used (halves + 1) (used + count)
+    → Added (halfRowAt ts first count turn (toZ w64 (ofZ w64 bound))) starts starts′ vs vs′ os os′ ws ws′ needs needs′ halves used
+    → Grown (halfRowAt ts first count turn bound ∷ []) starts starts′ vs vs′ os os′ ws ws′ needs needs′ halves used (halves + 1) (used + count)
 grown-half ts first count turn bound f {starts} {starts′} {vs} {vs′} {os} {os′} {ws} {ws′} {needs} {needs′} {halves} {used} a =
     grown-one (subst (λ (z : ℤ). Added (halfRowAt ts first count turn z) starts starts′ vs vs′ os os′ ws ws′ needs needs′ halves used) (toZ-ofZ f) a) refl
     (ap (λ (n : ℕ). used + n) (sym (halves-length ts first count turn)))
 
 -- the same, of a half row whose bound is read back of its bits
 pub grown-bound : (ts : List ℤ) (first count : ℕ) (turn want : Bool) {bound : ℤ} → SFits w64 bound → {starts starts′ vs vs′ os os′ ws ws′ needs needs′ : List ℕ} {halves used halves′ used′ : ℕ}
-  → Grown (ifWanted want (halfRowAt ts first count turn (toZ w64 (ofZ w64 bound)))) starts starts′ vs vs′ os os′ ws ws′ needs needs′ halves used halves′ used′
-  → Grown (ifWanted want (halfRowAt ts first count turn bound)) starts starts′ vs vs′ os os′ ws ws′ needs needs′ halves used halves′ used′
+    → Grown (ifWanted want (halfRowAt ts first count turn (toZ w64 (ofZ w64 bound)))) starts starts′ vs vs′ os os′ ws ws′ needs needs′ halves used halves′ used′
+    → Grown (ifWanted want (halfRowAt ts first count turn bound)) starts starts′ vs vs′ os os′ ws ws′ needs needs′ halves used halves′ used′
 grown-bound ts first count turn want f {starts} {starts′} {vs} {vs′} {os} {os′} {ws} {ws′} {needs} {needs′} {halves} {used} {halves′} {used′} g =
     subst (λ (z : ℤ). Grown (ifWanted want (halfRowAt ts first count turn z)) starts starts′ vs vs′ os os′ ws ws′ needs needs′ halves used halves′ used′) (toZ-ofZ f) g
 
 -- a half row at most, and its terms at most
-wanted-few : (want : Bool) (r : HalfRow) → (length (ifWanted want r) ≤ 1) × (length (allHalves (ifWanted want r)) ≤ length (r .terms))
+pub wanted-few : (want : Bool) (r : HalfRow) → (length (ifWanted want r) ≤ 1) × (length (allHalves (ifWanted want r)) ≤ length (r .terms))
 unfolding allHalves
 wanted-few true r = (omega arith, omega (arith, ap length (append-nil (r .terms))))
 wanted-few false r = (omega arith, omega arith)
 
 -- after the first half row there is room for the second
 pub room-left : (ts : List ℤ) (first count : ℕ) (turn want : Bool) (bound : ℤ) {starts starts′ vs vs′ os os′ ws ws′ needs needs′ : List ℕ} {halves used halves′ used′ : ℕ}
-  → Rooms starts vs os ws needs (halves + 2) (used + (count + count))
-  → Grown (ifWanted want (halfRowAt ts first count turn bound)) starts starts′ vs vs′ os os′ ws ws′ needs needs′ halves used halves′ used′ → Room starts′ vs′ os′ ws′ needs′ halves′ used′ count
+    → Rooms starts vs os ws needs (halves + 2) (used + (count + count))
+    → Grown (ifWanted want (halfRowAt ts first count turn bound)) starts starts′ vs vs′ os os′ ws ws′ needs needs′ halves used halves′ used′ → Room starts′ vs′ os′ ws′ needs′ halves′ used′ count
 room-left ts first count turn want bound m g =
     let w = wanted-few want (halfRowAt ts first count turn bound) in
     let l = halves-length ts first count turn in

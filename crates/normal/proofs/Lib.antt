@@ -6,3 +6,4 @@ pub mod LaidLaws
 pub mod NeedLaws
 pub mod AddLaws
 pub mod GrownLaws
+pub mod LayLaws

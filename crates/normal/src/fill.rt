@@ -1,15 +1,17 @@
 // The rows of an instance as half rows, one after the other.
 use crate::rows::add_half;
 use instance::Entry;
-
 ghost use Prim.Native.Nat.{_+_, _≤_};
 ghost use lib.IntN.{natAbs};
 ghost use lib.ListN.{length};
 ghost use Rattle.instance.specs.Limits.{maxTerms, maxBound, termRoom};
 ghost use Rattle.instance.specs.Parts.{TermsOk};
+ghost use Rattle.instance.specs.Lists.{tabulate};
+ghost use Rattle.instance.specs.Tables.{entriesIn, IsInstance};
+ghost use Rattle.instance.specs.Meaning.{entryAt};
 ghost use Rattle.instance.specs.Structs.{entryOf};
-ghost use Rattle.normal.specs.Rows.{halfRowAt, Room};
-ghost use Rattle.normal.specs.Grown.{ifWanted, halfRowsOf, Grown, Rooms};
+ghost use Rattle.normal.specs.Rows.{halfRowAt, Laid, Room};
+ghost use Rattle.normal.specs.Grown.{ifWanted, halfRowsOf, halfRowsAll, Grown, Rooms};
 
 // How far the runs are filled: half rows, and terms of them.
 pub struct Filled {
@@ -44,7 +46,20 @@ pub fn add_if(
     }
     let halves = at.halves;
     let used = at.used;
-    add_half(terms, first, count, turn, bound, halves, used, starts, variables, offs, weights, needs);
+    add_half(
+        terms,
+        first,
+        count,
+        turn,
+        bound,
+        halves,
+        used,
+        starts,
+        variables,
+        offs,
+        weights,
+        needs,
+    );
     Filled {
         halves: halves + 1,
         used: used + count,
@@ -73,6 +88,68 @@ pub fn add_row(
     let first = e.first;
     let count = e.count;
     let bound = e.bound;
-    let a = add_if(kind != Entry::AT_MOST, terms, first, count, false, bound, at, starts, variables, offs, weights, needs);
-    add_if(kind != Entry::AT_LEAST, terms, first, count, true, bound, a, starts, variables, offs, weights, needs)
+    let a = add_if(
+        kind != Entry::AT_MOST,
+        terms,
+        first,
+        count,
+        false,
+        bound,
+        at,
+        starts,
+        variables,
+        offs,
+        weights,
+        needs,
+    );
+    add_if(
+        kind != Entry::AT_LEAST,
+        terms,
+        first,
+        count,
+        true,
+        bound,
+        a,
+        starts,
+        variables,
+        offs,
+        weights,
+        needs,
+    )
+}
+
+// Lays the half rows of the `count` entries from `first` on out, from the beginning of each run.
+pub fn lay_rows(
+    terms: &[i32],
+    rows: &[i64],
+    first: usize,
+    count: usize,
+    starts: &mut [usize],
+    variables: &mut [usize],
+    offs: &mut [u8],
+    weights: &mut [u64],
+    needs: &mut [u64],
+) -> Filled
+    requires { ⌜ IsInstance (now terms) (now rows) ⌝ }
+    requires { ⌜ first + count ≤ entriesIn (now rows) ⌝ }
+    requires { ⌜ Rooms (now starts) (now variables) (now offs) (now weights) (now needs) (count + count) (maxTerms + maxTerms) ⌝ }
+    ensures { λ r. ⌜ Laid (halfRowsAll (tabulate (entryAt (now (terms .entry)) (now (rows .entry))) first count)) (now (starts .exit)) (now (variables .exit)) (now (offs .exit)) (now (weights .exit)) (now (needs .exit)) (r .halves) (r .used) ⌝ }
+{
+    starts[0] = 0;
+    let mut at = Filled { halves: 0, used: 0 };
+    let mut k: usize = 0;
+    while k < count {
+        at = add_row(
+            terms,
+            Entry::at(rows, first + k),
+            at,
+            starts,
+            variables,
+            offs,
+            weights,
+            needs,
+        );
+        k += 1;
+    }
+    at
 }
