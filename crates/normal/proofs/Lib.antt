@@ -7,3 +7,4 @@ pub mod NeedLaws
 pub mod AddLaws
 pub mod GrownLaws
 pub mod LayLaws
+pub mod SpanLaws
