@@ -8,3 +8,4 @@ pub mod AddLaws
 pub mod GrownLaws
 pub mod LayLaws
 pub mod SpanLaws
+pub mod MeetLaws
