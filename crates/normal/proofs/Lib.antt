@@ -9,3 +9,4 @@ pub mod GrownLaws
 pub mod LayLaws
 pub mod SpanLaws
 pub mod MeetLaws
+pub mod TableLaws

@@ -75,7 +75,7 @@ span-gives a (h ∷ hs) p r =
     here = sym (length-append p (h ∷ []) ∙ add-one (length p))
 
     moved : span (term (variablesOf (p ++ (h ∷ (hs ++ r)))) (offsOf (p ++ (h ∷ (hs ++ r)))) (weightsOf (p ++ (h ∷ (hs ++ r)))) (bit a)) (suc (length p)) (length hs)
-      ≡ span (term (variablesOf ((p ++ (h ∷ [])) ++ (hs ++ r))) (offsOf ((p ++ (h ∷ [])) ++ (hs ++ r))) (weightsOf ((p ++ (h ∷ [])) ++ (hs ++ r))) (bit a)) (length (p ++ (h ∷ []))) (length hs)
+        ≡ span (term (variablesOf ((p ++ (h ∷ [])) ++ (hs ++ r))) (offsOf ((p ++ (h ∷ [])) ++ (hs ++ r))) (weightsOf ((p ++ (h ∷ [])) ++ (hs ++ r))) (bit a)) (length (p ++ (h ∷ []))) (length hs)
     moved = ap₂ (λ (l : List Half) (k : ℕ). span (term (variablesOf l) (offsOf l) (weightsOf l) (bit a)) k (length hs)) all here
 
 -- ---- left
@@ -84,14 +84,14 @@ span-gives a (h ∷ hs) p r =
 abbrev pub rowAt : List HalfRow → ℕ → HalfRow
 rowAt hs k = getD hs k (record { terms = []; need = 0 })
 
-starts-head : (first : ℕ) (hs : List HalfRow) → getD (startsFrom first hs) 0 0 ≡ first
+pub starts-head : (first : ℕ) (hs : List HalfRow) → getD (startsFrom first hs) 0 0 ≡ first
 unfolding startsFrom
 starts-head first [] = refl
 starts-head first (r ∷ rs) = refl
 
 -- the left side of a half row is what its terms give
 pub left-gives : (a : ℕ) (hs : List HalfRow) (p : List Half) (k : ℕ) → k < length hs
-  → left (startsFrom (length p) hs) (variablesOf (p ++ allHalves hs)) (offsOf (p ++ allHalves hs)) (weightsOf (p ++ allHalves hs)) (bit a) k ≡ givesAll (rowAt hs k .terms) a
+    → left (startsFrom (length p) hs) (variablesOf (p ++ allHalves hs)) (offsOf (p ++ allHalves hs)) (weightsOf (p ++ allHalves hs)) (bit a) k ≡ givesAll (rowAt hs k .terms) a
 unfolding startsFrom allHalves
 left-gives a [] p k h = absurd (omega arith)
 left-gives a (r ∷ rs) p zero h =
