@@ -10,3 +10,4 @@ pub mod LayLaws
 pub mod SpanLaws
 pub mod MeetLaws
 pub mod TableLaws
+pub mod CostLaws

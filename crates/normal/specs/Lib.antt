@@ -2,3 +2,4 @@
 pub mod Halves
 pub mod Rows
 pub mod Grown
+pub mod Costs

@@ -2,6 +2,7 @@
 // Signed numbers end here: what searches for points counts in natural numbers alone. Read specs/Halves.antt.
 pub mod rows; // rows.rt: one half row laid out in runs
 pub mod fill; // fill.rt: the rows of an instance, one after the other
+pub mod costs; // costs.rt: objectives, by what each variable costs
 
 use instance::Term;
 use instance::signed::magnitude32;

@@ -1,3 +1,4 @@
+-- The coefficient's sign, its size, and the literal's variable and side make the half row's term; both numbers are small.
 use mathlib.Core.Path.{_≡_, refl, sym, ap, ap₂, _∙_}
 use mathlib.Core.Bool.{Bool, true, false, cond}
 use Prim.Native.Nat.{ℕ, _-_, _≤_}
@@ -14,11 +15,6 @@ use Rattle.normal.proofs.SideLaws.{half-as}
 use borrow.Author.Needs.{needs}
 use Rattle.normal.proofs.half_of.Statement.{statement}
 use Rattle.normal.proofs.half_of.Tie as tie
-use Rattle.normal.proofs.half_of.Reads as reads
-use Rattle.normal.proofs.half_of.Lts as lts
-use Rattle.instance.proofs.signed.magnitude32.Reads as magnitude32-reads
-use Rattle.normal.proofs.is_negative.Reads as is-negative-reads
-use Rattle.normal.proofs.off_side.Reads as off-side-reads
 
 -- both numbers of a term in range fit
 coef32 : (s : tie.Start) → SFits w32 (s .args .t .coef)

@@ -1,3 +1,4 @@
+-- By the turn: the test of the sign is the definition.
 use borrow.Author.Needs.{needs}
 use mathlib.Core.Path.{_≡_, refl, sym, ap, _∙_}
 use mathlib.Core.Bool.{Bool}
@@ -8,8 +9,6 @@ use Rattle.normal.specs.Halves.{isNegative}
 use Rattle.normal.proofs.SideLaws.{plain-sign, turned-sign}
 use Rattle.normal.proofs.is_negative.Statement.{statement}
 use Rattle.normal.proofs.is_negative.Tie as tie
-use Rattle.normal.proofs.is_negative.Reads as reads
-use Rattle.normal.proofs.is_negative.Lts as lts
 
 returns : tie.Need-returns
 returns c = ap (λ (z : ℤ). ltZ (pos 0) z) (toZ-ofZ (c .before .fits .coef)) ∙ turned-sign (c .before .args .coef) ∙ sym (ap (λ (b : Bool). isNegative b (c .before .args .coef)) (c .if1 .taken))

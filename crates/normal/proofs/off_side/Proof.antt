@@ -1,3 +1,4 @@
+-- By the literal's sign, then by the coefficient's.
 use borrow.Author.Needs.{needs}
 use mathlib.Core.Path.{_≡_, refl, sym, ap, _∙_}
 use mathlib.Core.Bool.{Bool, true, false, cond}
@@ -8,8 +9,6 @@ use Rattle.integers.proofs.SignedLaws.{plain}
 use Rattle.normal.proofs.SideLaws.{negated-side, plain-side}
 use Rattle.normal.proofs.off_side.Statement.{statement}
 use Rattle.normal.proofs.off_side.Tie as tie
-use Rattle.normal.proofs.off_side.Reads as reads
-use Rattle.normal.proofs.off_side.Lts as lts
 
 returns : tie.Need-returns
 returns c = sym (ap (λ (b : Bool). cond b 0 1) (c .if2 .taken)) ∙ negated-side (c .before .before .args .lit) (c .before .before .args .negative) (plain (λ (z : ℤ). ltZ z (pos 0) ≡ true) (c .before .before .fits .lit) (c .before .if1 .taken))

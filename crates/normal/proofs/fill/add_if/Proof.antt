@@ -1,3 +1,4 @@
+-- Nothing, or one half row more.
 use mathlib.Core.Path.{_≡_, refl, sym, ap, _∙_}
 use Prim.Native.Nat.{ℕ, _≤_}
 use native.Mathlib.Omega.{arith}
@@ -10,9 +11,6 @@ use Rattle.normal.proofs.GrownLaws.{grown-unwanted, grown-wanted, grown
 use borrow.Author.Needs.{needs}
 use Rattle.normal.proofs.fill.add_if.Statement.{statement}
 use Rattle.normal.proofs.fill.add_if.Tie as tie
-use Rattle.normal.proofs.fill.add_if.Reads as reads
-use Rattle.normal.proofs.fill.add_if.Lts as lts
-use Rattle.normal.proofs.rows.add_half.Reads as add-half-reads
 
 returns : tie.Need-returns
 returns c = grown-unwanted (not-true (c .before .before .before .before .before .before .args .want) (c .if1 .taken)) (halfRowAt (c .before .before .before .before .before .before .args .terms .now) (c .before .before .before .before .before .before .args .first) (c .before .before .before .before .before .before .args .count) (c .before .before .before .before .before .before .args .turn) (c .before .before .before .before .before .before .args .bound)) (c .before .before .before .before .before .before .args .starts .now) (c .before .before .before .before .before .before .args .variables .now) (c .before .before .before .before .before .before .args .offs .now) (c .before .before .before .before .before .before .args .weights .now) (c .before .before .before .before .before .before .args .needs .now) (c .before .before .before .before .before .before .args .at .halves) (c .before .before .before .before .before .before .args .at .used)

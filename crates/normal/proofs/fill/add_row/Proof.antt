@@ -1,3 +1,4 @@
+-- The plain half row if it is wanted, then the turned one (grown-then).
 use mathlib.Core.Path.{_≡_, refl, sym, ap, _∙_}
 use mathlib.Core.Bool.{not, true, false}
 use Prim.Native.Nat.{ℕ, _≤_}
@@ -12,9 +13,6 @@ use Rattle.normal.proofs.GrownLaws.{grown-then, grown-bound, room-left,
 use borrow.Author.Needs.{needs}
 use Rattle.normal.proofs.fill.add_row.Statement.{statement}
 use Rattle.normal.proofs.fill.add_row.Tie as tie
-use Rattle.normal.proofs.fill.add_row.Reads as reads
-use Rattle.normal.proofs.fill.add_row.Lts as lts
-use Rattle.normal.proofs.fill.add_if.Reads as add-if-reads
 
 -- the bound is in range, so it fits
 bound64 : (s : tie.Start) → SFits w64 (s .args .e .bound)

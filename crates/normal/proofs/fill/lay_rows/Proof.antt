@@ -1,3 +1,4 @@
+-- Invariant (Laying): the half rows of the first k rows are laid out, each row taking two half rows and each term two places at most. Measure: the rows left.
 use borrow.Author.Needs.{needs}
 use mathlib.Core.Path.{_≡_, refl, sym, ap, _∙_, subst}
 use Prim.Native.Nat.{ℕ, _+_, _-_, _≤_, _<_}
@@ -11,10 +12,6 @@ use Rattle.normal.specs.Grown.{halfRowsAll}
 use Rattle.normal.proofs.LayLaws.{Laying, laying-start, laying-room, laying-step, rooms-set, entry-inside-all, entry-terms-ok, entry-bound}
 use Rattle.normal.proofs.fill.lay_rows.Statement.{statement}
 use Rattle.normal.proofs.fill.lay_rows.Tie as tie
-use Rattle.normal.proofs.fill.lay_rows.Reads as reads
-use Rattle.normal.proofs.fill.lay_rows.Lts as lts
-use Rattle.instance.proofs.entries.Entry.at.Reads as at-reads
-use Rattle.normal.proofs.fill.add_row.Reads as add-row-reads
 
 abbrev Inv-loop : tie.InvT-loop
 Inv-loop terms rows first count starts₀ variables₀ offs₀ weights₀ needs₀ at₀ k₀ starts variables offs weights needs at k = (k ≤ count) × Laying terms rows first k starts₀ starts variables₀ variables offs₀ offs weights₀ weights needs₀ needs (at .halves) (at .used)

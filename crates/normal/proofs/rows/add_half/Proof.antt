@@ -1,3 +1,4 @@
+-- The terms, the need and the next start are stored just after what stands there (added-is).
 use mathlib.Core.Path.{_≡_, refl, sym, ap, _∙_}
 use Prim.Native.Nat.{ℕ, _≤_}
 use native.Mathlib.Omega.{arith}
@@ -9,10 +10,6 @@ use Rattle.normal.proofs.AddLaws.{lost-all-le, added-is}
 use borrow.Author.Needs.{needs}
 use Rattle.normal.proofs.rows.add_half.Statement.{statement}
 use Rattle.normal.proofs.rows.add_half.Tie as tie
-use Rattle.normal.proofs.rows.add_half.Reads as reads
-use Rattle.normal.proofs.rows.add_half.Lts as lts
-use Rattle.normal.proofs.rows.need_of.Reads as need-of-reads
-use Rattle.normal.proofs.rows.put_half.Reads as put-half-reads
 
 put-half-requires : tie.Need-put-half-requires
 put-half-requires c κs = ((c .before .before .before .before .before .before .before .before .pre .0), ((c .before .before .before .before .before .before .before .before .pre .1 .0), ((c .before .before .before .before .before .before .before .before .pre .1 .1 .0), ((c .before .before .before .before .before .before .before .before .pre .1 .1 .1 .1) .variables-room, (c .before .before .before .before .before .before .before .before .pre .1 .1 .1 .1) .offs-room, (c .before .before .before .before .before .before .before .before .pre .1 .1 .1 .1) .weights-room))))

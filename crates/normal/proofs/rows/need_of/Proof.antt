@@ -1,3 +1,4 @@
+-- The sum fits, since both numbers are in range; below 0 the need is 0.
 use native.Mathlib.Omega.{arith}
 use Prim.Native.Nat.{_≤_}
 use lib.IntN.{ℤ, natAbs}
@@ -10,9 +11,6 @@ use Rattle.normal.proofs.NeedLaws.{need-fits, need-none, need-cast, nee
 use borrow.Author.Needs.{needs}
 use Rattle.normal.proofs.rows.need_of.Statement.{statement}
 use Rattle.normal.proofs.rows.need_of.Tie as tie
-use Rattle.normal.proofs.rows.need_of.Reads as reads
-use Rattle.normal.proofs.rows.need_of.Lts as lts
-use Rattle.normal.proofs.rows.turned_bound.Reads as turned-bound-reads
 
 turned-bound-requires : tie.Need-turned-bound-requires
 turned-bound-requires c κs = search needs

@@ -1,3 +1,4 @@
+-- Invariant: the first k terms are laid out (HalfPut), and what was added is at most k times the largest coefficient. Measure: the terms left.
 use borrow.Author.Needs.{needs}
 use mathlib.Core.Path.{_≡_, refl, sym, ap, _∙_, subst}
 use Prim.Native.Nat.{ℕ, _+_, _*_, _-_, _≤_, _<_}
@@ -13,10 +14,6 @@ use Rattle.normal.specs.Rows.{HalfPut}
 use Rattle.normal.proofs.LaidLaws.{put-none, put-more, lost-le}
 use Rattle.normal.proofs.rows.put_half.Statement.{statement}
 use Rattle.normal.proofs.rows.put_half.Tie as tie
-use Rattle.normal.proofs.rows.put_half.Reads as reads
-use Rattle.normal.proofs.rows.put_half.Lts as lts
-use Rattle.instance.proofs.terms.Term.at.Reads as at-reads
-use Rattle.normal.proofs.half_of.Reads as half-of-reads
 
 abbrev Inv-loop : tie.InvT-loop
 Inv-loop terms first count turn at variables₀ offs₀ weights₀ lost₀ k₀ variables offs weights lost k = (k ≤ count) × HalfPut terms first k turn at variables₀ variables offs₀ offs weights₀ weights lost × (lost ≤ k * maxCoef)

@@ -1,9 +1,8 @@
+-- A bound in range fits, and so does its opposite.
 use borrow.Author.Needs.{needs}
 use Rattle.normal.proofs.NeedLaws.{negate-fits, negate-is, keep-is}
 use Rattle.normal.proofs.rows.turned_bound.Statement.{statement}
 use Rattle.normal.proofs.rows.turned_bound.Tie as tie
-use Rattle.normal.proofs.rows.turned_bound.Reads as reads
-use Rattle.normal.proofs.rows.turned_bound.Lts as lts
 
 sub-result : tie.Need-sub-result
 sub-result c = negate-fits (c .before .args .bound) (c .before .fits .bound) (c .before .pre)
