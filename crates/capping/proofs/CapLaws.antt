@@ -78,8 +78,8 @@ pub single-cap : (k : ℕ) (lb l cap : List ℕ) (a u i r : ℕ) → k ≤ i →
     → Tight k lb cap (set cap u r) (Free k l a) true
 single-cap k lb l cap a u i r q h z s m =
     tight-some k lb cap (set cap u r) (Free k l a)
-      (λ f x y fr. cap-at k cap u r f z y
-        (let t = free-at k l a lb u f h x fr (λ v p e. s .1 v (omega arith) e) in ⊎-elim (λ e. omega (arith, y u h, e)) (λ e. omega (arith, e)) m))
+    (λ f x y fr. cap-at k cap u r f z y
+    (let t = free-at k l a lb u f h x fr (λ v p e. s .1 v (omega arith) e) in ⊎-elim (λ e. omega (arith, y u h, e)) (λ e. omega (arith, e)) m))
 
 pub single-off : (k : ℕ) (lb l cap : List ℕ) (a u i : ℕ) → k ≤ i → k ≤ u → Single k lb l a u i → Tight k lb cap cap (Free k l a) false
 single-off k lb l cap a u i q h s = tight-none k lb cap cap (Free k l a) (λ f x y fr. fr (λ v p. let e = s .1 v (omega arith) (λ z. omega arith) in omega (arith, x v p)))
@@ -89,10 +89,10 @@ tight-same k lb cap Q = tight-some k lb cap cap Q (λ f a b q. b)
 
 pub tight-then : (k : ℕ) (lb cap cap′ cap″ : List ℕ) (Q R : (ℕ → ℕ) → Type 0) (r : Bool) → Tight k lb cap cap′ Q true → Tight k lb cap′ cap″ R r → Tight k lb cap cap″ (λ (f : ℕ → ℕ). Q f × R f) r
 tight-then k lb cap cap′ cap″ Q R r a b =
-    record
-      { some = λ e f u v q. b .some e f u (a .some refl f u v (q .0)) (q .1)
-      ; none = λ e f u v q. b .none e f u (a .some refl f u v (q .0)) (q .1)
-      }
+    record {
+      some = λ e f u v q. b .some e f u (a .some refl f u v (q .0)) (q .1);
+      none = λ e f u v q. b .none e f u (a .some refl f u v (q .0)) (q .1);
+    }
 
 pub tight-less : (k : ℕ) (lb cap cap′ : List ℕ) (Q R : (ℕ → ℕ) → Type 0) (r : Bool) → ((f : ℕ → ℕ) → R f → Q f) → Tight k lb cap cap′ Q r → Tight k lb cap cap′ R r
 tight-less k lb cap cap′ Q R r g a = record { some = λ e f u v q. a .some e f u v (g f q); none = λ e f u v q. a .none e f u v (g f q) }
@@ -121,21 +121,21 @@ low-none n start tv off w need d dear p lb cap = record { low = λ i l. absurd (
 pub low-more : (n : ℕ) (start tv off w need d dear : List ℕ) (i : ℕ) (p : Part) (lb cap : List ℕ) (r : ℕ) (res : List ℕ) → i < length lb → i < length cap → Low n start tv off w need d dear i p lb cap
     → Charged n start tv off w need (of p) d dear (i * n) r res → Low n start tv off w need d dear (i + 1) p (set lb i r) (set cap i 1099511627776)
 low-more n start tv off w need d dear i p lb cap r res l z old e =
-    record
-      { low = below-more (λ (j : ℕ). (x : ℕ → ℕ) → Completes n (of p) x → Meets start tv off w need x → getD (set lb i r) j 0 ≤ cost n d dear (j * n) x) i
+    record {
+      low = below-more (λ (j : ℕ). (x : ℕ → ℕ) → Completes n (of p) x → Meets start tv off w need x → getD (set lb i r) j 0 ≤ cost n d dear (j * n) x) i
           (λ j y x c m. let q = old .low j y x c m in omega (arith, getD-set-other lb i j r 0 (λ q. omega arith)))
-          (λ x c m. let q = e .bound x c m in omega (arith, getD-set-same lb i r 0 l))
-      ; wide = below-more (λ (j : ℕ). getD (set cap i 1099511627776) j 0 ≡ 2 ^ 40) i (λ j y. getD-set-other cap i j 1099511627776 0 (λ q. omega arith) ∙ old .wide j y) (getD-set-same cap i 1099511627776 0 z)
-      }
+          (λ x c m. let q = e .bound x c m in omega (arith, getD-set-same lb i r 0 l));
+      wide = below-more (λ (j : ℕ). getD (set cap i 1099511627776) j 0 ≡ 2 ^ 40) i (λ j y. getD-set-other cap i j 1099511627776 0 (λ q. omega arith) ∙ old .wide j y) (getD-set-same cap i 1099511627776 0 z);
+    }
 
 pub capped-low : (n : ℕ) (start tv off w need d dear : List ℕ) (k : ℕ) (p : Part) (lb cap cap′ : List ℕ) (Q : (ℕ → ℕ) → Type 0) (r : Bool)
     → ((i : ℕ) → i < k → Costs n d dear (i * n)) → n ≤ 64 → Low n start tv off w need d dear k p lb cap → Tight k lb cap cap′ Q r
     → Capped n (λ (x : ℕ → ℕ). Q (vec n d dear x) × Meets start tv off w need x) d dear k p cap′ r
 capped-low n start tv off w need d dear k p lb cap cap′ Q r cs few o t =
-    record
-      { some = λ e x c q. t .some e (vec n d dear x) (λ i l. o .low i l x c (q .1)) (high x) (q .0)
-      ; none = λ e x c q. t .none e (vec n d dear x) (λ i l. o .low i l x c (q .1)) (high x) (q .0)
-      }
+    record {
+      some = λ e x c q. t .some e (vec n d dear x) (λ i l. o .low i l x c (q .1)) (high x) (q .0);
+      none = λ e x c q. t .none e (vec n d dear x) (λ i l. o .low i l x c (q .1)) (high x) (q .0);
+    }
   where
-  high : (x : ℕ → ℕ) → Below k cap (vec n d dear x)
-  high x i l = omega (arith, o .wide i l, cost-le n d dear (i * n) x (cs i l) few)
+    high : (x : ℕ → ℕ) → Below k cap (vec n d dear x)
+    high x i l = omega (arith, o .wide i l, cost-le n d dear (i * n) x (cs i l) few)

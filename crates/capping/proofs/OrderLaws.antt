@@ -19,9 +19,9 @@ on e = absurd (let z : _≡_ {A = ℕ} 0 1 = cc in omega arith)
 pub lt-or : (x y : ℕ) → (x < y) ⊎ (y ≤ x)
 lt-or x y = split (ltb x y) refl
   where
-  split : (t : Bool) → ltb x y ≡ t → (x < y) ⊎ (y ≤ x)
-  split true e = inl (ltb-true x y e)
-  split false e = inr (ltb-false x y e)
+    split : (t : Bool) → ltb x y ≡ t → (x < y) ⊎ (y ≤ x)
+    split true e = inl (ltb-true x y e)
+    split false e = inr (ltb-false x y e)
 
 -- R3, one place
 pub lex-le : (m j : ℕ) (f g : ℕ → ℕ) → less m j f g → f j ≤ g j
@@ -63,7 +63,7 @@ lex-or zero j f g = inr (λ a. a)
 lex-or (suc m) j f g =
     ⊎-elim (λ x. inl (inl x))
     (λ x. ⊎-elim (λ e. ⊎-elim (λ y. inl (inr (e, y))) (λ y. inr (λ a. ⊎-elim (λ b. omega (arith, b, x)) (λ b. y (b .1)) a)) (lex-or m (j + 1) f g))
-      (λ e. inr (λ a. ⊎-elim (λ b. omega (arith, b, x)) (λ b. e (b .0)) a)) (eq-or (f j) (g j)))
+    (λ e. inr (λ a. ⊎-elim (λ b. omega (arith, b, x)) (λ b. e (b .0)) a)) (eq-or (f j) (g j)))
     (lt-or (f j) (g j))
 
 -- the same by the places that are compared

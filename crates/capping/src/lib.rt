@@ -86,20 +86,65 @@ pub fn points(k: usize, lb: &[u64], l: &[u64], m: usize, cap: &mut [u64]) -> boo
 }
 
 // Charged lower bounds, and caps above every vector.
-pub fn charges(n: usize, start: &[usize], tv: &[usize], off: &[u8], w: &[u64], need: &[u64], d: &[u64], dear: &[u8], k: usize, p: Part, res: &mut [u64], lb: &mut [u64], cap: &mut [u64])
+pub fn charges(
+    n: usize,
+    start: &[usize],
+    tv: &[usize],
+    off: &[u8],
+    w: &[u64],
+    need: &[u64],
+    d: &[u64],
+    dear: &[u8],
+    k: usize,
+    p: Part,
+    res: &mut [u64],
+    lb: &mut [u64],
+    cap: &mut [u64],
+)
     requires { ⌜ Table n (now start) (now tv) (now off) (now w) (now need) × ((i : ℕ) → i < k → Costs n (now d) (now dear) (i * n)) × (n ≤ length (now res)) × (k ≤ length (now lb)) × (k ≤ length (now cap)) ⌝ }
     ensures { λ _. ⌜ Low n (now (start .entry)) (now (tv .entry)) (now (off .entry)) (now (w .entry)) (now (need .entry)) (now (d .entry)) (now (dear .entry)) k p (now (lb .exit)) (now (cap .exit)) ⌝ }
 {
     let mut i = 0;
     while i < k {
-        lb[i] = charging::charge(n, start, tv, off, w, need, d, dear, i * n, p.set, p.one, res);
+        lb[i] = charging::charge(
+            n,
+            start,
+            tv,
+            off,
+            w,
+            need,
+            d,
+            dear,
+            i * n,
+            p.set,
+            p.one,
+            res,
+        );
         cap[i] = 1099511627776;
         i += 1;
     }
 }
 
 // Caps for what is wanted below p.
-pub fn caps(n: usize, start: &[usize], tv: &[usize], off: &[u8], w: &[u64], need: &[u64], d: &[u64], dear: &[u8], k: usize, l: &[u64], m: usize, have: bool, top: &[u64], p: Part, res: &mut [u64], lb: &mut [u64], cap: &mut [u64]) -> bool
+pub fn caps(
+    n: usize,
+    start: &[usize],
+    tv: &[usize],
+    off: &[u8],
+    w: &[u64],
+    need: &[u64],
+    d: &[u64],
+    dear: &[u8],
+    k: usize,
+    l: &[u64],
+    m: usize,
+    have: bool,
+    top: &[u64],
+    p: Part,
+    res: &mut [u64],
+    lb: &mut [u64],
+    cap: &mut [u64],
+) -> bool
     requires { ⌜ Table n (now start) (now tv) (now off) (now w) (now need) × ((i : ℕ) → i < k → Costs n (now d) (now dear) (i * n)) × (n ≤ length (now res)) × (k ≤ length (now lb)) × (k ≤ length (now cap)) × (m * k ≤ length (now l)) × (k ≤ length (now top)) ⌝ }
     ensures { λ r. ⌜ Capped n (λ (x : ℕ → ℕ). ((have ≡ true → less k 0 (vec n (now (d .entry)) (now (dear .entry)) x) (at (now (top .entry)))) × Fresh k (now (l .entry)) m (vec n (now (d .entry)) (now (dear .entry)) x)) × Meets (now (start .entry)) (now (tv .entry)) (now (off .entry)) (now (w .entry)) (now (need .entry)) x) (now (d .entry)) (now (dear .entry)) k p (now (cap .exit)) r ⌝ }
 {
@@ -110,4 +155,3 @@ pub fn caps(n: usize, start: &[usize], tv: &[usize], off: &[u8], w: &[u64], need
     }
     points(k, &*lb, l, m, cap)
 }
-

@@ -33,9 +33,9 @@ span-drop f g a zero u m h l e = absurd (not-suc-le-zero l)
 span-drop f g a (suc n) u m h l e =
     ⊎-elim
     (λ q. let s : f (a + n) + m ≤ g (a + n) = rw (← q) e in
-      let one = span-mono f g a n (λ k j. h k (omega arith)) in omega arith)
+    let one = span-mono f g a n (λ k j. h k (omega arith)) in omega arith)
     (λ q. let one = span-drop f g a n u m (λ k j. h k (omega arith)) q e in
-      let two = h n (le-refl (suc n)) in omega arith)
+    let two = h n (le-refl (suc n)) in omega arith)
     (eq-or-lt-of-le (le-of-suc-le-suc l))
 
 pub span-add : (f g e : ℕ → ℕ) (a n : ℕ) → ((k : ℕ) → k < n → f (a + k) + g (a + k) ≤ e (a + k)) → span f a n + span g a n ≤ span e a n
@@ -52,9 +52,9 @@ unfolding span
 span-some f g a zero l go = absurd (not-suc-le-zero l)
 span-some f g a (suc n) {C} l go = split (ltb (f (a + n)) (g (a + n))) refl (λ r. span-some f g a n r (λ k j m. go k (omega arith) m))
   where
-  split : (t : Bool) → ltb (f (a + n)) (g (a + n)) ≡ t → (span f a n < span g a n → C) → C
-  split true e back = go n (le-refl (suc n)) (ltb-true _ _ e)
-  split false e back = back (let q : g (a + n) ≤ f (a + n) = ltb-false _ _ e in omega arith)
+    split : (t : Bool) → ltb (f (a + n)) (g (a + n)) ≡ t → (span f a n < span g a n → C) → C
+    split true e back = go n (le-refl (suc n)) (ltb-true _ _ e)
+    split false e back = back (let q : g (a + n) ≤ f (a + n) = ltb-false _ _ e in omega arith)
 
 pub span-le : (f : ℕ → ℕ) (a n b : ℕ) → ((k : ℕ) → f k ≤ b) → span f a n ≤ n * b
 unfolding span
@@ -65,9 +65,9 @@ span-le f a (suc n) b h = rw suc-mul (let one = span-le f a n b h in let two = h
 pub eq-or : (a b : ℕ) → (a ≡ b) ⊎ (a ≡ b → ⊥)
 eq-or a b = split (eqb a b) refl
   where
-  split : (t : Bool) → eqb a b ≡ t → (a ≡ b) ⊎ (a ≡ b → ⊥)
-  split true e = inl (eqb-true a b e)
-  split false e = inr (eqb-false a b e)
+    split : (t : Bool) → eqb a b ≡ t → (a ≡ b) ⊎ (a ≡ b → ⊥)
+    split true e = inl (eqb-true a b e)
+    split false e = inr (eqb-false a b e)
 
 pub hit-eq : (a b w : ℕ) → a ≡ b → hit a b w ≡ w
 unfolding hit
@@ -111,8 +111,8 @@ pub spare-le : (y off dear r w : ℕ) → spare y off dear r w ≤ w
 spare-le y off dear r w =
     ⊎-elim (λ e. omega (arith, spare-none y off dear r w e))
     (λ e. ⊎-elim (λ f. omega (arith, spare-free y off dear r w e f))
-      (λ f. ⊎-elim (λ g. omega (arith, spare-paid y off dear r w e f g)) (λ g. omega (arith, spare-charged y off dear r w e f g)) (eq-or r 0))
-      (eq-or dear off))
+    (λ f. ⊎-elim (λ g. omega (arith, spare-paid y off dear r w e f g)) (λ g. omega (arith, spare-charged y off dear r w e f g)) (eq-or r 0))
+    (eq-or dear off))
     (eq-or y off)
 
 pub spare-two : (y off dear r w : ℕ) → (y ≡ off → ⊥) → (dear ≡ off → ⊥) → spare y off dear r w ≡ pick (eqb r 0) w 0

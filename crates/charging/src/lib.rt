@@ -1,86 +1,28 @@
+mod sides;
+
+pub use sides::hits;
+pub use sides::look;
+pub use sides::lower;
+pub use sides::missed;
+pub use sides::owe;
+pub use sides::paid;
+pub use sides::spared;
 ghost use mathlib.Core.Path.{_≡_};
 ghost use Prim.Native.Nat.{ℕ, _+_, _-_, _*_, _^_, _<_, _≤_};
 ghost use lib.ListN.{length, getD};
-ghost use Rattle.charging.specs.Rows.{hit, miss, spare, span, term, seen, Terms, Table, cost, spareAt, Paid, Charged, Costs, Owed, Step};
-
-// How the variable v stands: 2 where it is unset.
-pub fn look(set: u64, one: u64, v: usize) -> u8
-    requires { ⌜ v < 64 ⌝ }
-    ensures { λ r. ⌜ r ≡ seen set one v ⌝ }
-{
-    if (set >> v) % 2 == 0 {
-        return 2;
-    }
-    if (one >> v) % 2 == 0 {
-        return 0;
-    }
-    1
-}
-
-pub fn missed(a: u8, b: u8, w: u64) -> u64
-    ensures { λ r. ⌜ r ≡ miss a b w ⌝ }
-{
-    if a == b {
-        return 0;
-    }
-    w
-}
-
-pub fn hits(a: u8, b: u8, w: u64) -> u64
-    ensures { λ r. ⌜ r ≡ hit a b w ⌝ }
-{
-    if a == b {
-        return w;
-    }
-    0
-}
-
-pub fn spared(y: u8, off: u8, dear: u8, res: u64, w: u64) -> u64
-    ensures { λ r. ⌜ r ≡ spare y off dear res w ⌝ }
-{
-    if y == off {
-        return 0;
-    }
-    if dear == off {
-        return w;
-    }
-    if res == 0 {
-        return w;
-    }
-    0
-}
-
-// m, or res where it is chargeable and less.
-pub fn lower(m: u64, off: u8, dear: u8, res: u64) -> u64
-    ensures { λ r. ⌜ (r ≤ m) × ((dear ≡ off → ⊥) → (res ≡ 0 → ⊥) → r ≤ res) ⌝ }
-{
-    if dear == off {
-        return m;
-    }
-    if res == 0 {
-        return m;
-    }
-    if res < m {
-        return res;
-    }
-    m
-}
-
-// res, less m where the side is dear.
-pub fn paid(m: u64, off: u8, dear: u8, res: u64) -> u64
-    ensures { λ r. ⌜ (r ≤ res) × ((dear ≡ off → ⊥) → r ≤ res - m) ⌝ }
-{
-    if dear == off {
-        return res;
-    }
-    if res < m {
-        return 0;
-    }
-    res - m
-}
+ghost use Rattle.charging.specs.Rows.{span, term, seen, Terms, Table, cost, spareAt, Paid, Charged, Costs, Owed, Step};
 
 // The greatest sum of the `many` terms from a on that val leaves in reach.
-pub fn reach(n: usize, tv: &[usize], off: &[u8], w: &[u64], set: u64, one: u64, a: usize, many: usize) -> u64
+pub fn reach(
+    n: usize,
+    tv: &[usize],
+    off: &[u8],
+    w: &[u64],
+    set: u64,
+    one: u64,
+    a: usize,
+    many: usize,
+) -> u64
     requires { ⌜ Terms n (now tv) (now off) (now w) × (a + many ≤ length (now tv)) ⌝ }
     ensures { λ r. ⌜ r ≡ span (term (now (tv .entry)) (now (off .entry)) (now (w .entry)) (seen set one)) a many ⌝ }
 {
@@ -96,7 +38,19 @@ pub fn reach(n: usize, tv: &[usize], off: &[u8], w: &[u64], set: u64, one: u64, 
 }
 
 // What the terms that need no charge can give.
-pub fn cover(n: usize, tv: &[usize], off: &[u8], w: &[u64], set: u64, one: u64, dear: &[u8], o: usize, res: &[u64], a: usize, many: usize) -> u64
+pub fn cover(
+    n: usize,
+    tv: &[usize],
+    off: &[u8],
+    w: &[u64],
+    set: u64,
+    one: u64,
+    dear: &[u8],
+    o: usize,
+    res: &[u64],
+    a: usize,
+    many: usize,
+) -> u64
     requires { ⌜ Terms n (now tv) (now off) (now w) × (a + many ≤ length (now tv)) × (o + n ≤ length (now dear)) × (n ≤ length (now res)) ⌝ }
     ensures { λ r. ⌜ r ≡ span (spareAt (now (tv .entry)) (now (off .entry)) (now (w .entry)) (seen set one) (now (dear .entry)) o (now (res .entry))) a many ⌝ }
 {
@@ -112,7 +66,17 @@ pub fn cover(n: usize, tv: &[usize], off: &[u8], w: &[u64], set: u64, one: u64, 
 }
 
 // At most what is left to charge at each chargeable term.
-pub fn least(n: usize, tv: &[usize], off: &[u8], w: &[u64], dear: &[u8], o: usize, res: &[u64], a: usize, many: usize) -> u64
+pub fn least(
+    n: usize,
+    tv: &[usize],
+    off: &[u8],
+    w: &[u64],
+    dear: &[u8],
+    o: usize,
+    res: &[u64],
+    a: usize,
+    many: usize,
+) -> u64
     requires { ⌜ Terms n (now tv) (now off) (now w) × (a + many ≤ length (now tv)) × (o + n ≤ length (now dear)) × (n ≤ length (now res)) ⌝ }
     ensures { λ r. ⌜ (r ≤ 2 ^ 34) × ((k : ℕ) → k < many → (getD (now (dear .entry)) (o + getD (now (tv .entry)) (a + k) 0) 0 ≡ getD (now (off .entry)) (a + k) 0 → ⊥) → (getD (now (res .entry)) (getD (now (tv .entry)) (a + k) 0) 0 ≡ 0 → ⊥) → r ≤ getD (now (res .entry)) (getD (now (tv .entry)) (a + k) 0) 0) ⌝ }
 {
@@ -128,7 +92,18 @@ pub fn least(n: usize, tv: &[usize], off: &[u8], w: &[u64], dear: &[u8], o: usiz
 }
 
 // Takes m off what is left to charge at each chargeable term.
-pub fn pay(n: usize, tv: &[usize], off: &[u8], w: &[u64], dear: &[u8], o: usize, res: &mut [u64], a: usize, many: usize, m: u64)
+pub fn pay(
+    n: usize,
+    tv: &[usize],
+    off: &[u8],
+    w: &[u64],
+    dear: &[u8],
+    o: usize,
+    res: &mut [u64],
+    a: usize,
+    many: usize,
+    m: u64,
+)
     requires { ⌜ Terms n (now tv) (now off) (now w) × (a + many ≤ length (now tv)) × (o + n ≤ length (now dear)) × (n ≤ length (now res)) ⌝ }
     ensures { λ _. ⌜ Paid n (now (tv .entry)) (now (off .entry)) (now (dear .entry)) o a many m (now (res .entry)) (now (res .exit)) ⌝ }
 {
@@ -155,16 +130,6 @@ pub fn sure(n: usize, d: &[u64], dear: &[u8], o: usize, set: u64, one: u64) -> u
     sum
 }
 
-// d, where the variable is unset.
-pub fn owe(y: u8, d: u64) -> u64
-    ensures { λ r. ⌜ (y ≡ 2 → r ≡ d) × ((y ≡ 2 → ⊥) → r ≡ 0) ⌝ }
-{
-    if y == 2 {
-        return d;
-    }
-    0
-}
-
 // What is left to charge at the start.
 pub fn owed(n: usize, d: &[u64], o: usize, set: u64, one: u64, res: &mut [u64])
     requires { ⌜ (o + n ≤ length (now d)) × (n ≤ 64) × (n ≤ length (now res)) ⌝ }
@@ -178,7 +143,21 @@ pub fn owed(n: usize, d: &[u64], o: usize, set: u64, one: u64, res: &mut [u64])
 }
 
 // Charges row h, if it needs a dear side.
-pub fn charge_row(n: usize, start: &[usize], tv: &[usize], off: &[u8], w: &[u64], need: &[u64], d: &[u64], dear: &[u8], o: usize, set: u64, one: u64, res: &mut [u64], h: usize) -> u64
+pub fn charge_row(
+    n: usize,
+    start: &[usize],
+    tv: &[usize],
+    off: &[u8],
+    w: &[u64],
+    need: &[u64],
+    d: &[u64],
+    dear: &[u8],
+    o: usize,
+    set: u64,
+    one: u64,
+    res: &mut [u64],
+    h: usize,
+) -> u64
     requires { ⌜ Table n (now start) (now tv) (now off) (now w) (now need) × Costs n (now d) (now dear) o × (n ≤ length (now res)) × (h < length (now need)) ⌝ }
     ensures { λ r. ⌜ Step n (now (start .entry)) (now (tv .entry)) (now (off .entry)) (now (w .entry)) (now (need .entry)) (seen set one) (now (dear .entry)) o (now (res .entry)) (now (res .exit)) r ⌝ }
 {
@@ -193,7 +172,20 @@ pub fn charge_row(n: usize, start: &[usize], tv: &[usize], off: &[u8], w: &[u64]
 }
 
 // A lower bound of the cost of every completion that meets the rows, and what is left to charge.
-pub fn charge(n: usize, start: &[usize], tv: &[usize], off: &[u8], w: &[u64], need: &[u64], d: &[u64], dear: &[u8], o: usize, set: u64, one: u64, res: &mut [u64]) -> u64
+pub fn charge(
+    n: usize,
+    start: &[usize],
+    tv: &[usize],
+    off: &[u8],
+    w: &[u64],
+    need: &[u64],
+    d: &[u64],
+    dear: &[u8],
+    o: usize,
+    set: u64,
+    one: u64,
+    res: &mut [u64],
+) -> u64
     requires { ⌜ Table n (now start) (now tv) (now off) (now w) (now need) × Costs n (now d) (now dear) o × (n ≤ length (now res)) ⌝ }
     ensures { λ r. ⌜ Charged n (now (start .entry)) (now (tv .entry)) (now (off .entry)) (now (w .entry)) (now (need .entry)) (seen set one) (now (d .entry)) (now (dear .entry)) o r (now (res .exit)) ⌝ }
 {

@@ -1,1 +1,1 @@
-pub mod FindLaws
+pub mod ForceLaws

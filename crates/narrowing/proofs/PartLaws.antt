@@ -23,15 +23,15 @@ unset-bit s o v e = ⊎-elim (λ z. z) (λ z. absurd (omega (arith, seen-set s o
 pub unset-less : (n s v : ℕ) → v < n → bit s v ≡ 0 → unset n (s + 2 ^ v) + 1 ≤ unset n s
 unset-less n s v l e =
     span-drop (λ (u : ℕ). hit (bit (s + 2 ^ v) u) 0 1) (λ (u : ℕ). hit (bit s u) 0 1) 0 n v 1 (λ u i. rw zero-add (each u))
-      l (rw zero-add (omega (arith, hit-eq (bit s v) 0 1 e, hit-ne (bit (s + 2 ^ v) v) 0 1 (λ z. omega (arith, set-same s v e)))))
+    l (rw zero-add (omega (arith, hit-eq (bit s v) 0 1 e, hit-ne (bit (s + 2 ^ v) v) 0 1 (λ z. omega (arith, set-same s v e)))))
   where
-  each : (u : ℕ) → hit (bit (s + 2 ^ v) u) 0 1 ≤ hit (bit s u) 0 1
-  each u =
-      ⊎-elim
-      (λ z. let same : bit (s + 2 ^ v) v ≡ 1 = set-same s v e in
+    each : (u : ℕ) → hit (bit (s + 2 ^ v) u) 0 1 ≤ hit (bit s u) 0 1
+    each u =
+        ⊎-elim
+        (λ z. let same : bit (s + 2 ^ v) v ≡ 1 = set-same s v e in
         let off : hit (bit (s + 2 ^ v) u) 0 1 ≡ 0 = subst (λ (k : ℕ). hit (bit (s + 2 ^ v) k) 0 1 ≡ 0) (sym z) (hit-ne (bit (s + 2 ^ v) v) 0 1 (λ y. omega arith)) in omega arith)
-      (λ z. rw (set-other s v u e z) (le-refl (hit (bit s u) 0 1)))
-      (eq-or u v)
+        (λ z. rw (set-other s v u e z) (le-refl (hit (bit s u) 0 1)))
+        (eq-or u v)
 
 pub two-of : (a b : ℕ) → a < 2 → b < 2 → (a ≡ 1 - b → ⊥) → a ≡ b
 two-of a b l m f = ⊎-elim (λ e. e) (λ e. absurd (f (omega (arith, e)))) (eq-or a b)
@@ -42,10 +42,10 @@ module _ (n : ℕ) (W : (ℕ → ℕ) → Type 0) where
 
   pub narrows-trans : (y y′ y″ : ℕ → ℕ) → Narrows n W y y′ → Narrows n W y′ y″ → Narrows n W y y″
   narrows-trans y y′ y″ a b =
-      record
-        { more = λ v l e. let one = a .more v l e in b .more v l (λ z. e (sym one ∙ z)) ∙ one
-        ; keep = λ x c w. b .keep x (a .keep x c w) w
-        }
+      record {
+        more = λ v l e. let one = a .more v l e in b .more v l (λ z. e (sym one ∙ z)) ∙ one;
+        keep = λ x c w. b .keep x (a .keep x c w) w;
+      }
 
   pub narrows-back : (y y′ : ℕ → ℕ) → Narrows n W y y′ → (x : ℕ → ℕ) → Completes n y′ x → Completes n y x
   narrows-back y y′ a x c =
@@ -65,21 +65,21 @@ module _ (n : ℕ) (W : (ℕ → ℕ) → Type 0) where
   pub put-leads : (p : Part) (v b : ℕ) (q : Part) → Put n p v b q → v < n → b < 2 → of p v ≡ 2
       → ((x : ℕ → ℕ) → Completes n (of p) x → W x → x v ≡ 1 - b → ⊥) → Leads n W p q
   put-leads p v b q t l m u f =
-      record
-        { good = t .good
-        ; narrows = record
-            { more = λ k i e. t .others k (λ z. e (ap (of p) z ∙ u))
-            ; keep = λ x c w. record { bits = c .bits; agrees = λ k i e. agree x c w k i e }
-            }
-        ; fewer = omega (arith, t .fewer)
-        }
+      record {
+        good = t .good;
+        narrows = record {
+          more = λ k i e. t .others k (λ z. e (ap (of p) z ∙ u));
+          keep = λ x c w. record { bits = c .bits; agrees = λ k i e. agree x c w k i e };
+        };
+        fewer = omega (arith, t .fewer);
+      }
     where
-    agree : (x : ℕ → ℕ) → Completes n (of p) x → W x → (k : ℕ) → k < n → (of q k ≡ 2 → ⊥) → x k ≡ of q k
-    agree x c w k i e =
-        ⊎-elim
-        (λ z. ap x z ∙ two-of (x v) b (c .bits v l) m (f x c w) ∙ sym (t .here) ∙ ap (of q) (sym z))
-        (λ z. let o = t .others k z in c .agrees k i (λ y. e (o ∙ y)) ∙ sym o)
-        (eq-or k v)
+      agree : (x : ℕ → ℕ) → Completes n (of p) x → W x → (k : ℕ) → k < n → (of q k ≡ 2 → ⊥) → x k ≡ of q k
+      agree x c w k i e =
+          ⊎-elim
+          (λ z. ap x z ∙ two-of (x v) b (c .bits v l) m (f x c w) ∙ sym (t .here) ∙ ap (of q) (sym z))
+          (λ z. let o = t .others k z in c .agrees k i (λ y. e (o ∙ y)) ∙ sym o)
+          (eq-or k v)
 
 -- more is wanted of fewer
 pub leads-less : (n : ℕ) (W U : (ℕ → ℕ) → Type 0) (p q : Part) → ((x : ℕ → ℕ) → U x → W x) → Leads n W p q → Leads n U p q
@@ -108,32 +108,32 @@ pub put-zero : (n : ℕ) (p : Part) (v : ℕ) (q : Part) → Good n p → v < n 
 put-zero n p v q g l u es eo el =
     let e = unset-bit (p .set) (p .one) v u in
     let k = put-count n p v g l e in
-    record
-      { good = record { sub = λ i z. rw eo (put-sub p n v g e i (rw es at z)); count = rw (es, el) (k .0) }
-      ; here = rw (es, eo) (seen-set (p .set + 2 ^ v) (p .one) v (λ z. omega (arith, set-same (p .set) v e)) ∙ g .sub v e)
-      ; others = λ i f. rw (es, eo) (put-others (p .set) (p .one) (p .one) v e i f refl)
-      ; fewer = rw el (k .1)
-      }
+    record {
+      good = record { sub = λ i z. rw eo (put-sub p n v g e i (rw es at z)); count = rw (es, el) (k .0) };
+      here = rw (es, eo) (seen-set (p .set + 2 ^ v) (p .one) v (λ z. omega (arith, set-same (p .set) v e)) ∙ g .sub v e);
+      others = λ i f. rw (es, eo) (put-others (p .set) (p .one) (p .one) v e i f refl);
+      fewer = rw el (k .1);
+    }
 
 pub put-one : (n : ℕ) (p : Part) (v : ℕ) (q : Part) → Good n p → v < n → of p v ≡ 2 → q .set ≡ p .set + 2 ^ v → q .one ≡ p .one + 2 ^ v → q .left ≡ p .left - 1 → Put n p v 1 q
 put-one n p v q g l u es eo el =
     let e = unset-bit (p .set) (p .one) v u in
     let z₁ = g .sub v e in
     let k = put-count n p v g l e in
-    record
-      { good = record { sub = λ i z. rw eo (sub i (rw es at z)); count = rw (es, el) (k .0) }
-      ; here = rw (es, eo) (seen-set (p .set + 2 ^ v) (p .one + 2 ^ v) v (λ z. omega (arith, set-same (p .set) v e)) ∙ set-same (p .one) v z₁)
-      ; others = λ i f. rw (es, eo) (put-others (p .set) (p .one) (p .one + 2 ^ v) v e i f (set-other (p .one) v i z₁ f))
-      ; fewer = rw el (k .1)
-      }
+    record {
+      good = record { sub = λ i z. rw eo (sub i (rw es at z)); count = rw (es, el) (k .0) };
+      here = rw (es, eo) (seen-set (p .set + 2 ^ v) (p .one + 2 ^ v) v (λ z. omega (arith, set-same (p .set) v e)) ∙ set-same (p .one) v z₁);
+      others = λ i f. rw (es, eo) (put-others (p .set) (p .one) (p .one + 2 ^ v) v e i f (set-other (p .one) v i z₁ f));
+      fewer = rw el (k .1);
+    }
   where
-  sub : (i : ℕ) → bit (p .set + 2 ^ v) i ≡ 0 → bit (p .one + 2 ^ v) i ≡ 0
-  sub i z =
-      let e = unset-bit (p .set) (p .one) v u in
-      ⊎-elim
-      (λ y. absurd (omega (arith, set-same (p .set) v e, subst (λ (k : ℕ). bit (p .set + 2 ^ v) k ≡ 0) y z)))
-      (λ y. set-other (p .one) v i (g .sub v e) y ∙ put-sub p n v g e i z)
-      (eq-or i v)
+    sub : (i : ℕ) → bit (p .set + 2 ^ v) i ≡ 0 → bit (p .one + 2 ^ v) i ≡ 0
+    sub i z =
+        let e = unset-bit (p .set) (p .one) v u in
+        ⊎-elim
+        (λ y. absurd (omega (arith, set-same (p .set) v e, subst (λ (k : ℕ). bit (p .set + 2 ^ v) k ≡ 0) y z)))
+        (λ y. set-other (p .one) v i (g .sub v e) y ∙ put-sub p n v g e i z)
+        (eq-or i v)
 
 -- room for one more
 pub put-left : (n : ℕ) (p : Part) (v : ℕ) → Good n p → v < n → of p v ≡ 2 → 1 ≤ p .left
@@ -156,7 +156,7 @@ pub maybe-leads : (n : ℕ) (W : (ℕ → ℕ) → Type 0) (p q : Part) (v b : �
 maybe-leads n W p q v b why r a m l i f =
     ⊎-elim (λ e. rw e a)
     (λ e. leads-trans n W p q r a (put-leads n W q v b r (e .2) l i (e .1)
-      (λ x c w. f (e .0) (narrows-unset n W (of p) (of q) (a .narrows) v l (e .1)) x (narrows-back n W (of p) (of q) (a .narrows) x c) w)))
+    (λ x c w. f (e .0) (narrows-unset n W (of p) (of q) (a .narrows) v l (e .1)) x (narrows-back n W (of p) (of q) (a .narrows) x c) w)))
     m
 
 pub cuts-then : (n : ℕ) (W : (ℕ → ℕ) → Type 0) (p q r : Part) (ok : Bool) → Leads n W p q → Cuts n W q ok r → Cuts n W p ok r
@@ -175,13 +175,16 @@ pub row-more : (n : ℕ) (start tv off w need : List ℕ) → Table n start tv o
     → Leads n (Meets start tv off w need) p r
 row-more n start tv off w need t p q r h j slack l i top a m =
     maybe-leads n (Meets start tv off w need) p q v (1 - getD off k 0) (slack < getD w k 0) r a m (t .terms .vars k ink) (omega arith)
-      (λ why u x c mt e. forced n start tv off w need t (of p) h j l i u (omega arith) x c mt (e ∙ flip (getD off k 0) (t .terms .sides k ink)))
+    (λ why u x c mt e. forced n start tv off w need t (of p) h j l i u (omega arith) x c mt (e ∙ flip (getD off k 0) (t .terms .sides k ink)))
   where
-  k : ℕ
-  k = getD start h 0 + j
-  v : ℕ
-  v = getD tv k 0
-  ink : k < length tv
-  ink = in-row n start tv off w need t h j l i
-  flip : (b : ℕ) → b < 2 → 1 - (1 - b) ≡ b
-  flip b z = omega arith
+    k : ℕ
+    k = getD start h 0 + j
+
+    v : ℕ
+    v = getD tv k 0
+
+    ink : k < length tv
+    ink = in-row n start tv off w need t h j l i
+
+    flip : (b : ℕ) → b < 2 → 1 - (1 - b) ≡ b
+    flip b z = omega arith

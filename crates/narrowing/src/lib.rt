@@ -57,7 +57,16 @@ pub fn push(n: usize, tv: &[usize], off: &[u8], w: &[u64], slack: u64, k: usize,
 }
 
 // What row h forces.
-pub fn row(n: usize, start: &[usize], tv: &[usize], off: &[u8], w: &[u64], need: &[u64], h: usize, p: Part) -> Cut
+pub fn row(
+    n: usize,
+    start: &[usize],
+    tv: &[usize],
+    off: &[u8],
+    w: &[u64],
+    need: &[u64],
+    h: usize,
+    p: Part,
+) -> Cut
     requires { ⌜ Table n (now start) (now tv) (now off) (now w) (now need) × Good n p × (h < length (now need)) ⌝ }
     ensures { λ r. ⌜ Cuts n (Meets (now (start .entry)) (now (tv .entry)) (now (off .entry)) (now (w .entry)) (now (need .entry))) p (r .ok) (r .part) ⌝ }
 {
@@ -79,7 +88,15 @@ pub fn row(n: usize, start: &[usize], tv: &[usize], off: &[u8], w: &[u64], need:
 }
 
 // What the rows force, one after the other.
-pub fn pass(n: usize, start: &[usize], tv: &[usize], off: &[u8], w: &[u64], need: &[u64], p: Part) -> Cut
+pub fn pass(
+    n: usize,
+    start: &[usize],
+    tv: &[usize],
+    off: &[u8],
+    w: &[u64],
+    need: &[u64],
+    p: Part,
+) -> Cut
     requires { ⌜ Table n (now start) (now tv) (now off) (now w) (now need) × Good n p ⌝ }
     ensures { λ r. ⌜ Cuts n (Meets (now (start .entry)) (now (tv .entry)) (now (off .entry)) (now (w .entry)) (now (need .entry))) p (r .ok) (r .part) ⌝ }
 {

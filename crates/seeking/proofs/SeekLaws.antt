@@ -14,8 +14,10 @@ use Rattle.charging.proofs.SumLaws.{eq-or}
 use Rattle.narrowing.specs.declared.Part.{Part}
 use Rattle.narrowing.specs.Parts.{of, Put, Leads, Cuts}
 use Rattle.narrowing.proofs.PartLaws.{cuts-off, cuts-then}
-use Rattle.forcing.specs.Goals.{Wanted, Tells}
-use Rattle.forcing.proofs.FindLaws.{cuts-less, cost-up, child-keep}
+use Rattle.forcing.specs.Goals.{Wanted}
+use Rattle.finding.specs.Finding.{Tells}
+use Rattle.forcing.proofs.ForceLaws.{cuts-less, cost-up}
+use Rattle.finding.proofs.FindLaws.{child-keep}
 use Rattle.capping.specs.Caps.{vec, less, at, Fresh, Capped}
 use Rattle.seeking.specs.Least.{Want, Fit, Covers, Holds, Best, Opened, Sizes}
 use Rattle.capping.proofs.OrderLaws.{no, on, lex-trans, lex-up, lex-or, lex-same, lex-mono}
@@ -26,10 +28,10 @@ open-none n d dear p lb cap = record { sure = λ i l. absurd (not-suc-le-zero l)
 pub open-more : (n : ℕ) (d dear : List ℕ) (i : ℕ) (p : Part) (lb cap : List ℕ) (r : ℕ) → i < length lb → i < length cap → Opened n d dear i p lb cap → r ≡ cost n d dear (i * n) (of p)
     → Opened n d dear (i + 1) p (set lb i r) (set cap i 1099511627776)
 open-more n d dear i p lb cap r l z old e =
-    record
-      { sure = below-more (λ (j : ℕ). getD (set lb i r) j 0 ≡ cost n d dear (j * n) (of p)) i (λ j y. getD-set-other lb i j r 0 (λ q. omega arith) ∙ old .sure j y) (getD-set-same lb i r 0 l ∙ e)
-      ; wide = below-more (λ (j : ℕ). getD (set cap i 1099511627776) j 0 ≡ 2 ^ 40) i (λ j y. getD-set-other cap i j 1099511627776 0 (λ q. omega arith) ∙ old .wide j y) (getD-set-same cap i 1099511627776 0 z)
-      }
+    record {
+      sure = below-more (λ (j : ℕ). getD (set lb i r) j 0 ≡ cost n d dear (j * n) (of p)) i (λ j y. getD-set-other lb i j r 0 (λ q. omega arith) ∙ old .sure j y) (getD-set-same lb i r 0 l ∙ e);
+      wide = below-more (λ (j : ℕ). getD (set cap i 1099511627776) j 0 ≡ 2 ^ 40) i (λ j y. getD-set-other cap i j 1099511627776 0 (λ q. omega arith) ∙ old .wide j y) (getD-set-same cap i 1099511627776 0 z);
+    }
 
 module _ (n : ℕ) (start tv off w need d dear : List ℕ) (k : ℕ) (l : List ℕ) (m : ℕ) (have : Bool) (top : List ℕ) where
   abbrev pub W : (ℕ → ℕ) → Type 0
@@ -68,38 +70,38 @@ module _ (n : ℕ) (start tv off w need d dear : List ℕ) (k : ℕ) (l : List �
       → Leads n (Want n start tv off w need d dear k l m h t) p q → v < n → Put n q v 0 q₀ → Put n q v 1 q₁
       → Best n F k d dear q₀ h t h₀ r₀ t₀ → Best n F k d dear q₁ h₀ t₀ h₁ r₁ t₁ → Best n F k d dear p h t h₁ r₁ t₁
   best-two p q v q₀ q₁ h t h₀ r₀ t₀ h₁ r₁ t₁ a i p₀ p₁ b₀ b₁ =
-      record
-        { holds = b₁ .holds
-        ; least = λ x c u.
+      record {
+        holds = b₁ .holds;
+        least = λ x c u.
             ⊎-elim
             (λ y. let z = a .narrows .keep x c y in
-              ⊎-elim
-              (λ e. b₁ .kept (vec n d dear x) (b₀ .least x (child-keep n F q v 0 q₀ p₀ i x z e) u))
-              (λ e. b₁ .least x (child-keep n F q v 1 q₁ p₁ i x z (omega (arith, z .bits v i, e))) u)
-              (eq-or (x v) 0))
+            ⊎-elim
+            (λ e. b₁ .kept (vec n d dear x) (b₀ .least x (child-keep n F q v 0 q₀ p₀ i x z e) u))
+            (λ e. b₁ .least x (child-keep n F q v 1 q₁ p₁ i x z (omega (arith, z .bits v i, e))) u)
+            (eq-or (x v) 0))
             (λ y. b₁ .kept (vec n d dear x) (b₀ .kept (vec n d dear x) y))
-            (want-or h t x u)
-        ; kept = λ g c. b₁ .kept g (b₀ .kept g c)
-        }
+            (want-or h t x u);
+        kept = λ g c. b₁ .kept g (b₀ .kept g c);
+      }
 
   pub best-lead : (p q : Part) (h : Bool) (t : List ℕ) (h₁ : Bool) (r : Part) (t₁ : List ℕ)
       → Leads n (Want n start tv off w need d dear k l m h t) p q → Best n F k d dear q h t h₁ r t₁ → Best n F k d dear p h t h₁ r t₁
   best-lead p q h t h₁ r t₁ a b =
-      record
-        { holds = b .holds
-        ; least = λ x c u. ⊎-elim (λ y. b .least x (a .narrows .keep x c y) u) (λ y. b .kept (vec n d dear x) y) (want-or h t x u)
-        ; kept = b .kept
-        }
+      record {
+        holds = b .holds;
+        least = λ x c u. ⊎-elim (λ y. b .least x (a .narrows .keep x c y) u) (λ y. b .kept (vec n d dear x) y) (want-or h t x u);
+        kept = b .kept;
+      }
 
   -- a leaf that comes before the incumbent takes its place
   pub best-taken : (q : Part) (h : Bool) (t t₁ : List ℕ) → ((i : ℕ) → i < k → Costs n d dear (i * n)) → Completes n (of q) (of q) → F (of q)
       → (h ≡ true → less k 0 (vec n d dear (of q)) (at t)) → ((i : ℕ) → i < k → getD t₁ i 0 ≡ vec n d dear (of q) i) → Best n F k d dear q h t true q t₁
   best-taken q h t t₁ cs c u b e =
-      record
-        { holds = record { fit = λ _. u; bits = λ _. c .bits; value = λ _. e }
-        ; least = λ x z y. (refl, lex-up k 0 k (vec n d dear x) (at t₁) (omega arith) (λ i j. omega (arith, e i j, cost-up n (of q) d dear (i * n) (cs i j) x z)))
-        ; kept = λ g y. (refl, λ z. y .1 (lex-trans k 0 g (vec n d dear (of q)) (at t) (lex-same k 0 k g g (at t₁) (vec n d dear (of q)) (omega arith) (λ i j. refl) e z) (b (y .0))))
-        }
+      record {
+        holds = record { fit = λ _. u; bits = λ _. c .bits; value = λ _. e };
+        least = λ x z y. (refl, lex-up k 0 k (vec n d dear x) (at t₁) (omega arith) (λ i j. omega (arith, e i j, cost-up n (of q) d dear (i * n) (cs i j) x z)));
+        kept = λ g y. (refl, λ z. y .1 (lex-trans k 0 g (vec n d dear (of q)) (at t) (lex-same k 0 k g g (at t₁) (vec n d dear (of q)) (omega arith) (λ i j. refl) e z) (b (y .0))));
+      }
 
   module _ (q : Part) (cs : (i : ℕ) → i < k → Costs n d dear (i * n)) (lb cap : List ℕ) (o : Opened n d dear k q lb cap) where
     under : (x : ℕ → ℕ) → Completes n (of q) x → (i : ℕ) → i < k → getD lb i 0 ≤ vec n d dear x i
@@ -115,7 +117,7 @@ module _ (n : ℕ) (start tv off w need d dear : List ℕ) (k : ℕ) (l : List �
         → (have ≡ true → less k 0 (at lb) (at top)) → ((i : ℕ) → i < k → getD top′ i 0 ≡ getD lb i 0) → Best n F k d dear q have top true q top′
     leaf-taken have top top′ c mt f b e =
         best-taken q have top top′ cs c (record { meets = mt; fresh = λ i z a. f i z (λ j y. omega (arith, a j y, o .sure j y)) })
-          (λ h. lex-same k 0 k (at lb) (vec n d dear (of q)) (at top) (at top) (omega arith) (o .sure) (λ i j. refl) (b h)) (λ i j. e i j ∙ o .sure i j)
+        (λ h. lex-same k 0 k (at lb) (vec n d dear (of q)) (at top) (at top) (omega arith) (o .sure) (λ i j. refl) (b h)) (λ i j. e i j ∙ o .sure i j)
 
   pub leaf-unmet : (q : Part) (have : Bool) (r : Part) (top : List ℕ) → Holds n F k d dear have r top → Tells n (Meets start tv off w need) q false → Best n F k d dear q have top have r top
   leaf-unmet q have r top h t = best-stays q have r top h (λ x c u. t .no refl x c (u .meets))

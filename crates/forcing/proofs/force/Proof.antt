@@ -7,7 +7,7 @@ use Rattle.charging.specs.Rows.{seen, Charged}
 use Rattle.narrowing.specs.Parts.{Leads}
 use Rattle.narrowing.proofs.PartLaws.{leads-refl, cuts-on, cuts-off}
 use Rattle.forcing.specs.Goals.{Under}
-use Rattle.forcing.proofs.FindLaws.{force-more, over}
+use Rattle.forcing.proofs.ForceLaws.{force-more, over}
 use Rattle.forcing.proofs.force.Statement.{statement}
 use Rattle.forcing.proofs.force.Tie as tie
 

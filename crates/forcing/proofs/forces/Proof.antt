@@ -6,7 +6,7 @@ use lib.ListN.{length}
 use Rattle.narrowing.specs.Parts.{Leads}
 use Rattle.narrowing.proofs.PartLaws.{leads-refl, cuts-on}
 use Rattle.forcing.specs.Goals.{Wanted}
-use Rattle.forcing.proofs.FindLaws.{cuts-cap}
+use Rattle.forcing.proofs.ForceLaws.{cuts-cap}
 use Rattle.forcing.proofs.forces.Statement.{statement}
 use Rattle.forcing.proofs.forces.Tie as tie
 

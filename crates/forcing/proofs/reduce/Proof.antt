@@ -7,7 +7,7 @@ use Rattle.charging.specs.Rows.{left}
 use Rattle.narrowing.specs.Parts.{Leads}
 use Rattle.narrowing.proofs.PartLaws.{leads-refl, cuts-then}
 use Rattle.forcing.specs.Goals.{Wanted}
-use Rattle.forcing.proofs.FindLaws.{cuts-rows}
+use Rattle.forcing.proofs.ForceLaws.{cuts-rows}
 use Rattle.forcing.proofs.reduce.Statement.{statement}
 use Rattle.forcing.proofs.reduce.Tie as tie
 

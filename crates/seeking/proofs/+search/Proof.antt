@@ -4,7 +4,7 @@ use Prim.Native.Nat.{ℕ, _<_, _+_, _-_}
 use Rattle.charging.specs.Rows.{left}
 use Rattle.capping.specs.Caps.{at}
 use borrow.Author.Tests.{not-true}
-use Rattle.forcing.proofs.FindLaws.{branch-in, branch-all, whole-part}
+use Rattle.finding.proofs.FindLaws.{branch-in, branch-all, whole-part}
 use Rattle.seeking.proofs.SeekLaws.{search-off, best-lead, best-two, sizes-same}
 use Prim.Native.Nat.{ℕ, _<_}
 use borrow.Fn.Kinds.{In}
@@ -14,7 +14,7 @@ use Rattle.seeking.proofs.search.Kinds as search-kinds
 use Rattle.seeking.proofs.+search.Lts-search as search-lts
 use Rattle.seeking.proofs.leaf.Reads as leaf-reads
 use Rattle.seeking.proofs.reduce.Reads as reduce-reads
-use Rattle.forcing.proofs.branch.Reads as branch-reads
+use Rattle.finding.proofs.branch.Reads as branch-reads
 use Rattle.narrowing.proofs.put.Reads as put-reads
 use Rattle.seeking.proofs.+search.{statement}
 use Rattle.seeking.proofs.+search.Tie.{close}

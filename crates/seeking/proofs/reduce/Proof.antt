@@ -19,7 +19,7 @@ abbrev μ-loop : tie.MeasureT-loop
 μ-loop n start tv off w need d dear k l m have top res₀ lb₀ cap₀ q₀ res lb cap q = q .left
 
 loop-holds : tie.Need-loop-holds Inv-loop μ-loop
-loop-holds c = let s = c .before .before .before .before .before .before .before .before .before .before .before .before in let a = s .args in let t = s .pre .0 in let z = s .pre .1 in let g = s .pre .2 in (refl, refl, refl, leads-refl (a .n) (Want (a .n) (a .start .now) (a .tv .now) (a .off .now) (a .w .now) (a .need .now) (a .d .now) (a .dear .now) (a .k) (a .l .now) (a .m) (a .have) (a .top .now) ) (a .p) g)
+loop-holds c = let s = c .before .before .before .before .before .before .before .before .before .before .before .before in let a = s .args in let t = s .pre .0 in let z = s .pre .1 in let g = s .pre .2 in (refl, refl, refl, leads-refl (a .n) (Want (a .n) (a .start .now) (a .tv .now) (a .off .now) (a .w .now) (a .need .now) (a .d .now) (a .dear .now) (a .k) (a .l .now) (a .m) (a .have) (a .top .now)) (a .p) g)
 
 pass-requires : tie.Need-pass-requires Inv-loop μ-loop
 pass-requires c κs = let s = c .before .before .before .before .before .before .before .before .before .before .before .before .before in let a = s .args in let t = s .pre .0 in let z = s .pre .1 in let g = s .pre .2 in let l = c .loop in (t, l .inv .3 .good)
