@@ -3,7 +3,7 @@ use mathlib.Core.Path.{_≡_}
 use mathlib.Core.Logic.{_⊎_}
 use mathlib.Core.Bool.{Bool, true, false}
 use mathlib.Core.List.{List}
-use Prim.Native.Nat.{ℕ, _*_, _≤_, _<_}
+use Prim.Native.Nat.{ℕ, _*_, _≤_, _<_, _^_}
 use lib.ListN.{getD}
 use Rattle.charging.specs.Rows.{Completes, cost}
 use Rattle.narrowing.specs.declared.Part.{Part}
@@ -16,6 +16,7 @@ Branch n p v = ((v < n) × (of p v ≡ 2)) ⊎ ((v ≡ n) × ((u : ℕ) → u < 
 -- a wanted completion of p, or that there is none
 pub record Finds (n : ℕ) (W : (ℕ → ℕ) → Type 0) (p : Part) (ok : Bool) (q : Part) : Type 0 where
   pub some : ok ≡ true → Completes n (of p) (of q) × W (of q)
+  pub fits : ok ≡ true → q .one < 2 ^ n
   pub none : ok ≡ false → (x : ℕ → ℕ) → Completes n (of p) x → W x → ⊥
 
 -- p itself has W, or no completion of p has

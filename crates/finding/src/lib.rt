@@ -1,9 +1,9 @@
 use narrowing::Cut;
 use narrowing::Part;
 ghost use mathlib.Core.Bool.{true, false};
-ghost use Prim.Native.Nat.{_+_, _-_, _*_, _<_, _≤_};
+ghost use Prim.Native.Nat.{ℕ, _+_, _-_, _*_, _<_, _≤_};
 ghost use lib.ListN.{length};
-ghost use Rattle.charging.specs.Rows.{Table, Meets};
+ghost use Rattle.charging.specs.Rows.{Table, Meets, Costs};
 ghost use Rattle.narrowing.specs.Parts.{Good};
 ghost use Rattle.forcing.specs.Goals.{Objectives, Wanted};
 ghost use Rattle.finding.specs.Finding.{Branch, Finds, Tells, Cheap};
@@ -33,6 +33,44 @@ pub fn branch(n: usize, order: &[usize], p: Part) -> usize
         u += 1;
     }
     n
+}
+
+// The greater of two.
+pub fn greater(a: u64, b: u64) -> u64
+    ensures { λ r. ⌜ a ≤ r ⌝ }
+{
+    if a < b {
+        return b;
+    }
+    a
+}
+
+// The side that is not dear, where cost is more than most; else b.
+pub fn toward(b: u8, most: u64, cost: u64, dear: u8) -> u8
+    requires { ⌜ (b < 2) × (dear < 2) ⌝ }
+    ensures { λ r. ⌜ r < 2 ⌝ }
+{
+    if most < cost {
+        return 1 - dear;
+    }
+    b
+}
+
+// The side to try first: the one that is not dear by the objective that v is dearest in. A hint: any side is right.
+pub fn cheaper(n: usize, d: &[u64], dear: &[u8], k: usize, v: usize) -> u8
+    requires { ⌜ ((i : ℕ) → i < k → Costs n (now d) (now dear) (i * n)) × (v < n) ⌝ }
+    ensures { λ r. ⌜ r < 2 ⌝ }
+{
+    let mut b: u8 = 0;
+    let mut most: u64 = 0;
+    let mut i = 0;
+    while i < k {
+        let at = i * n + v;
+        b = toward(b, most, d[at], dear[at]);
+        most = greater(most, d[at]);
+        i += 1;
+    }
+    b
 }
 
 // Whether every row can still be met.
@@ -128,6 +166,7 @@ pub fn find(
         let yes = wanted(n, start, tv, off, w, need, d, dear, k, caps, q);
         return Cut { ok: yes, part: q };
     }
+    let b = cheaper(n, d, dear, k, v);
     let first = find(
         n,
         start,
@@ -141,7 +180,7 @@ pub fn find(
         caps,
         order,
         res,
-        narrowing::put(n, q, v, 0),
+        narrowing::put(n, q, v, b),
     );
     let got = first.ok;
     if got {
@@ -160,6 +199,6 @@ pub fn find(
         caps,
         order,
         res,
-        narrowing::put(n, q, v, 1),
+        narrowing::put(n, q, v, 1 - b),
     )
 }

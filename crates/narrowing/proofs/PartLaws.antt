@@ -109,7 +109,7 @@ put-zero n p v q g l u es eo el =
     let e = unset-bit (p .set) (p .one) v u in
     let k = put-count n p v g l e in
     record {
-      good = record { sub = λ i z. rw eo (put-sub p n v g e i (rw es at z)); count = rw (es, el) (k .0) };
+      good = record { sub = λ i z. rw eo (put-sub p n v g e i (rw es at z)); count = rw (es, el) (k .0); fits = rw eo (g .fits) };
       here = rw (es, eo) (seen-set (p .set + 2 ^ v) (p .one) v (λ z. omega (arith, set-same (p .set) v e)) ∙ g .sub v e);
       others = λ i f. rw (es, eo) (put-others (p .set) (p .one) (p .one) v e i f refl);
       fewer = rw el (k .1);
@@ -121,7 +121,7 @@ put-one n p v q g l u es eo el =
     let z₁ = g .sub v e in
     let k = put-count n p v g l e in
     record {
-      good = record { sub = λ i z. rw eo (sub i (rw es at z)); count = rw (es, el) (k .0) };
+      good = record { sub = λ i z. rw eo (sub i (rw es at z)); count = rw (es, el) (k .0); fits = rw eo (set-fits n (p .one) v (g .fits) l z₁) };
       here = rw (es, eo) (seen-set (p .set + 2 ^ v) (p .one + 2 ^ v) v (λ z. omega (arith, set-same (p .set) v e)) ∙ set-same (p .one) v z₁);
       others = λ i f. rw (es, eo) (put-others (p .set) (p .one) (p .one + 2 ^ v) v e i f (set-other (p .one) v i z₁ f));
       fewer = rw el (k .1);

@@ -2,7 +2,7 @@
 use mathlib.Core.Path.{_≡_}
 use mathlib.Core.Logic.{_⊎_}
 use mathlib.Core.Bool.{Bool, false}
-use Prim.Native.Nat.{ℕ, _+_, _≤_, _<_}
+use Prim.Native.Nat.{ℕ, _+_, _≤_, _<_, _^_}
 use Rattle.charging.specs.Rows.{hit, span, bit, seen, Completes}
 use Rattle.narrowing.specs.declared.Part.{Part}
 
@@ -13,10 +13,11 @@ unset n set = span (λ (v : ℕ). hit (bit set v) 0 1) 0 n
 abbrev pub of : Part → ℕ → ℕ
 of p = seen (p .set) (p .one)
 
--- a variable at 1 is set, and `left` is at least the number of the unset
+-- A variable at 1 is set, `left` is at least the number of the unset, and there is no bit from n up.
 pub record Good (n : ℕ) (p : Part) : Type 0 where
   pub sub : (v : ℕ) → bit (p .set) v ≡ 0 → bit (p .one) v ≡ 0
   pub count : unset n (p .set) ≤ p .left
+  pub fits : p .one < 2 ^ n
 
 -- q is p with v at b
 pub record Put (n : ℕ) (p : Part) (v b : ℕ) (q : Part) : Type 0 where

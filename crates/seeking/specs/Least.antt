@@ -28,6 +28,7 @@ Covers k have top f = (have ≡ true) × (less k 0 f (at top) → ⊥)
 pub record Holds (n : ℕ) (W : (ℕ → ℕ) → Type 0) (k : ℕ) (d dear : List ℕ) (have : Bool) (q : Part) (top : List ℕ) : Type 0 where
   pub fit : have ≡ true → W (of q)
   pub bits : have ≡ true → (v : ℕ) → v < n → of q v < 2
+  pub fits : have ≡ true → q .one < 2 ^ n
   pub value : have ≡ true → (i : ℕ) → i < k → getD top i 0 ≡ vec n d dear (of q) i
 
 -- what a search below p has found: nothing below p comes before it, and it is no worse than what there was

@@ -101,7 +101,7 @@ pub fn leaf(
     q: Part,
     inc: Cut,
 ) -> Cut
-    requires table { ⌜ Table n (now start) (now tv) (now off) (now w) (now need) × ((i : ℕ) → i < k → Costs n (now d) (now dear) (i * n)) × (m * k ≤ length (now l)) × (k ≤ length (now top)) × (k ≤ length (now lb)) × (k ≤ length (now cap)) × Completes n (of q) (of q) ⌝ }
+    requires table { ⌜ Table n (now start) (now tv) (now off) (now w) (now need) × ((i : ℕ) → i < k → Costs n (now d) (now dear) (i * n)) × (m * k ≤ length (now l)) × (k ≤ length (now top)) × (k ≤ length (now lb)) × (k ≤ length (now cap)) × Completes n (of q) (of q) × Good n q ⌝ }
     requires holds { ⌜ Holds n (Fit n (now start) (now tv) (now off) (now w) (now need) (now d) (now dear) k (now l) m) k (now d) (now dear) (inc .ok) (inc .part) (now top) ⌝ }
     ensures { λ r. ⌜ Best n (Fit n (now (start .entry)) (now (tv .entry)) (now (off .entry)) (now (w .entry)) (now (need .entry)) (now (d .entry)) (now (dear .entry)) k (now (l .entry)) m) k (now (d .entry)) (now (dear .entry)) q (inc .ok) (now (top .entry)) (r .ok) (r .part) (now (top .exit)) ⌝ }
 {
@@ -191,6 +191,7 @@ pub fn search(
             inc,
         );
     }
+    let b = finding::cheaper(n, d, dear, k, v);
     let first = search(
         n,
         start,
@@ -208,7 +209,7 @@ pub fn search(
         lb,
         cap,
         top,
-        narrowing::put(n, q, v, 0),
+        narrowing::put(n, q, v, b),
         inc,
     );
     search(
@@ -228,7 +229,7 @@ pub fn search(
         lb,
         cap,
         top,
-        narrowing::put(n, q, v, 1),
+        narrowing::put(n, q, v, 1 - b),
         first,
     )
 }

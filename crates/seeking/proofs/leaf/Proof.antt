@@ -57,7 +57,7 @@ same-length-8 : tie.Need-same-length-8
 same-length-8 c = search needs
 
 returns-4 : tie.Need-returns-4
-returns-4 c = let s = c .before .before .before .before .before .before .before .before .before .before .before .before .before .before .before .before .before .before .before .before .before .before .before .before .before .before .before .before .before .before .before .before in let a = s .args in let cs = s .pre .0 .1 in let h = s .pre .1 in leaf-taken (a .n) (a .start .now) (a .tv .now) (a .off .now) (a .w .now) (a .need .now) (a .d .now) (a .dear .now) (a .k) (a .l .now) (a .m) (a .q) cs _ _ (c .before .before .before .before .before .before .before .before .before .before .before .before .before .before .before .before .widen .ensures) (a .inc .ok) (a .top .now) _ (s .pre .0 .6) (c .before .before .before .before .before .before .before .before .before .before .before .before .before .before .before .before .before .before .before .before .met .ensures .yes (not-false (c .before .before .before .before .before .before .before .before .before .before .before .before .before .before .before .before .before .before .before .before .met .result) (c .before .before .before .before .before .before .before .before .before .before .before .before .before .before .before .before .before .before .before .if1 .left))) (c .before .before .before .before .before .before .before .before .before .before .fresh .ensures .0 (not-false (c .before .before .before .before .before .before .before .before .before .before .fresh .result) (c .before .before .before .before .before .before .before .before .before .if2 .left))) (c .before .before .before .before .before .before .earlier-if .ensures .0 (not-false (c .before .before .before .before .before .before .earlier-if .result) (c .before .before .before .before .before .if3 .left))) (c .before .before .copy .ensures)
+returns-4 c = let s = c .before .before .before .before .before .before .before .before .before .before .before .before .before .before .before .before .before .before .before .before .before .before .before .before .before .before .before .before .before .before .before .before in let a = s .args in let cs = s .pre .0 .1 in let h = s .pre .1 in leaf-taken (a .n) (a .start .now) (a .tv .now) (a .off .now) (a .w .now) (a .need .now) (a .d .now) (a .dear .now) (a .k) (a .l .now) (a .m) (a .q) cs _ _ (c .before .before .before .before .before .before .before .before .before .before .before .before .before .before .before .before .widen .ensures) (a .inc .ok) (a .top .now) _ (s .pre .0 .7 .fits) (s .pre .0 .6) (c .before .before .before .before .before .before .before .before .before .before .before .before .before .before .before .before .before .before .before .before .met .ensures .yes (not-false (c .before .before .before .before .before .before .before .before .before .before .before .before .before .before .before .before .before .before .before .before .met .result) (c .before .before .before .before .before .before .before .before .before .before .before .before .before .before .before .before .before .before .before .if1 .left))) (c .before .before .before .before .before .before .before .before .before .before .fresh .ensures .0 (not-false (c .before .before .before .before .before .before .before .before .before .before .fresh .result) (c .before .before .before .before .before .before .before .before .before .if2 .left))) (c .before .before .before .before .before .before .earlier-if .ensures .0 (not-false (c .before .before .before .before .before .before .earlier-if .result) (c .before .before .before .before .before .if3 .left))) (c .before .before .copy .ensures)
 
 pub leaf-spec : {M : Type 1} → statement M
 leaf-spec =
