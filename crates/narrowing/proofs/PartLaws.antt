@@ -3,13 +3,13 @@ use mathlib.Core.Path.{_≡_, refl, ap, sym, subst, _∙_}
 use mathlib.Core.Logic.{_⊎_, ⊎-elim}
 use mathlib.Core.Bool.{Bool, true, false}
 use mathlib.Core.List.{List}
-use Prim.Native.Nat.{ℕ, suc, _+_, _-_, _*_, _%_, _^_, _≤_, _<_}
+use Prim.Native.Nat.{ℕ, suc, _+_, _-_, _*_, _%_, _^_, _≤_, _<_, zero}
 use native.Mathlib.Nat.{le-refl, zero-add, one-mul, pow-succ', two-mul, mod-eq-of-lt}
 use lib.Pow.{pow-mono, pow-pos}
 use native.Mathlib.Omega.{arith}
 use lib.ListN.{length, getD}
 use Rattle.charging.specs.Rows.{hit, left, bit, seen, Table, Completes, Meets}
-use Rattle.charging.proofs.SumLaws.{span-drop, hit-eq, hit-ne, eq-or}
+use Rattle.charging.proofs.SumLaws.{span-le, hit-le, span-drop, hit-eq, hit-ne, eq-or}
 use Rattle.charging.proofs.BitLaws.{bit-two, set-same, set-other, set-fits, seen-unset, seen-set}
 use Rattle.charging.proofs.ChargeLaws.{forced, in-row}
 use Rattle.narrowing.specs.declared.Part.{Part}
@@ -188,3 +188,20 @@ row-more n start tv off w need t p q r h j slack l i top a m =
 
     flip : (b : ℕ) → b < 2 → 1 - (1 - b) ≡ b
     flip b z = omega arith
+
+bit-zero : (v : ℕ) → bit 0 v ≡ 0
+unfolding bit
+bit-zero zero = refl
+bit-zero (suc v) = bit-zero v
+
+-- nothing is set
+pub blank-unset : (v : ℕ) → seen 0 0 v ≡ 2
+blank-unset v = seen-unset 0 0 v (bit-zero v)
+
+pub blank-good : (n : ℕ) (p : Part) → p .set ≡ 0 → p .one ≡ 0 → p .left ≡ n → Good n p
+blank-good n p es eo el =
+    record {
+      sub = λ v e. rw eo (bit-zero v);
+      count = rw (es, el) (let u = span-le (λ (v : ℕ). hit (bit 0 v) 0 1) 0 n 1 (λ v. hit-le (bit 0 v) 0 1) in omega arith);
+      fits = rw eo (pow-pos n);
+    }
