@@ -1,3 +1,4 @@
+// One variable and one term: how the variable stands, and what the term gives or owes by that. No loops.
 ghost use mathlib.Core.Path.{_≡_};
 ghost use Prim.Native.Nat.{_-_, _<_, _≤_};
 ghost use Rattle.charging.specs.Rows.{hit, miss, spare, seen};
@@ -16,6 +17,7 @@ pub fn look(set: u64, one: u64, v: usize) -> u8
     1
 }
 
+// What a term of weight w gives, where its variable stands at a and b does not help.
 pub fn missed(a: u8, b: u8, w: u64) -> u64
     ensures { λ r. ⌜ r ≡ miss a b w ⌝ }
 {
@@ -25,6 +27,7 @@ pub fn missed(a: u8, b: u8, w: u64) -> u64
     w
 }
 
+// What a variable that stands at a costs, where b is its dear side.
 pub fn hits(a: u8, b: u8, w: u64) -> u64
     ensures { λ r. ⌜ r ≡ hit a b w ⌝ }
 {
@@ -34,6 +37,7 @@ pub fn hits(a: u8, b: u8, w: u64) -> u64
     0
 }
 
+// What a term can give without a charge.
 pub fn spared(y: u8, off: u8, dear: u8, res: u64, w: u64) -> u64
     ensures { λ r. ⌜ r ≡ spare y off dear res w ⌝ }
 {

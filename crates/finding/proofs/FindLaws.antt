@@ -1,4 +1,4 @@
--- Laws of the search. Assumes nothing.
+-- Every completion of a part is one of its two children's, so two children without a wanted one leave none; a complete part completes itself.
 use mathlib.Core.Path.{_≡_, refl, ap, sym, _∙_}
 use mathlib.Core.Logic.{_⊎_, ⊎-elim}
 use mathlib.Core.Bool.{Bool, true, false}

@@ -1,1 +1,2 @@
+-- Read Finding.
 pub mod Finding

@@ -1,4 +1,4 @@
--- Laws of the search. Assumes nothing.
+-- R6: the charged bound and what is left at a variable on its dear side are at most the cost; beyond the cap, no wanted completion has it so.
 use mathlib.Core.Path.{_≡_, sym, subst, _∙_}
 use mathlib.Core.Logic.{_⊎_, ⊎-elim}
 use mathlib.Core.Bool.{Bool}

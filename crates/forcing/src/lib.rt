@@ -1,3 +1,9 @@
+// Forcing (R6): what caps on the objectives force in a partial assignment.
+//
+// forces(.., caps, p)   sets a variable to its cheap side where the charged bound and its dear side would pass a cap
+// reduce(.., caps, p)   rows and caps, until nothing more is forced
+//
+// An assignment is wanted where it meets the rows and costs at most the cap by each objective. Read specs/Goals.antt.
 use narrowing::Cut;
 use narrowing::Part;
 ghost use mathlib.Core.Bool.{true, false};

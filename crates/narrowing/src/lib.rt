@@ -1,3 +1,9 @@
+// Narrowing (R1 and R2): a partial assignment by value, and what the rows force in it.
+//
+// blank(n), put(n, p, v, b)   the part that sets nothing; p with v at b
+// pass(.., p)                 sets each variable without whose help a row cannot be met; or finds that p has no completion that meets the rows
+//
+// The tables are those of the crate charging. Read specs/Parts.antt; proofs/PartLaws.antt has the argument.
 ghost use mathlib.Core.Path.{_≡_};
 ghost use mathlib.Core.Bool.{true, false};
 ghost use Prim.Native.Nat.{_+_, _-_, _<_, _≤_, ℕ};

@@ -1,4 +1,5 @@
--- Laws of the search for the least. Assumes nothing.
+-- What is fit comes before the incumbent or is covered by it. So only what is wanted (fit and before the incumbent) counts below a node: where
+-- nothing is, the incumbent stays; else it is below one of the children, and what the first child leaves covers all that it had covered.
 use mathlib.Core.Path.{_≡_, refl, _∙_}
 use mathlib.Core.Logic.{_⊎_, inl, inr, ⊎-elim}
 use mathlib.Core.Bool.{Bool, true, false}

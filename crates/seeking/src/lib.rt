@@ -1,5 +1,13 @@
+// Seeking the least vector, first objective first, among those of assignments that meet the rows and are weakly dominated by no listed point.
+//
+// search(.., p, inc)    the least of the incumbent and of what is fit below p, by a recursion over the unset variables
+// reduce(.., p)         R1 to R6 to a fixpoint: sets what is forced, or finds that nothing is wanted below p
+//
+// Each pruning rule enters by the contract of `reduce` alone. Read specs/Least.antt; proofs/SeekLaws.antt has the argument.
+mod leaves;
 mod vectors;
 
+pub use leaves::leaf;
 use narrowing::Cut;
 use narrowing::Part;
 pub use vectors::copy;
@@ -8,11 +16,10 @@ pub use vectors::earlier_if;
 pub use vectors::free;
 pub use vectors::fresh;
 pub use vectors::widen;
-ghost use mathlib.Core.Bool.{true, false};
-ghost use Prim.Native.Nat.{ℕ, _-_, _*_, _<_, _≤_};
-ghost use lib.ListN.{length};
-ghost use Rattle.charging.specs.Rows.{Table, Completes, Costs};
-ghost use Rattle.narrowing.specs.Parts.{of, Good, Cuts};
+ghost use mathlib.Core.Bool.{false};
+ghost use Prim.Native.Nat.{_-_, _*_};
+ghost use Rattle.charging.specs.Rows.{Table};
+ghost use Rattle.narrowing.specs.Parts.{Good, Cuts};
 ghost use Rattle.seeking.specs.Least.{Want, Fit, Holds, Best, Sizes};
 
 // Rows, caps and charges, until nothing more is forced.
@@ -80,44 +87,6 @@ pub fn reduce(
             return e;
         }
     }
-}
-
-// A complete q takes the incumbent's place, if it is fit and comes before it.
-pub fn leaf(
-    n: usize,
-    start: &[usize],
-    tv: &[usize],
-    off: &[u8],
-    w: &[u64],
-    need: &[u64],
-    d: &[u64],
-    dear: &[u8],
-    k: usize,
-    l: &[u64],
-    m: usize,
-    lb: &mut [u64],
-    cap: &mut [u64],
-    top: &mut [u64],
-    q: Part,
-    inc: Cut,
-) -> Cut
-    requires table { ⌜ Table n (now start) (now tv) (now off) (now w) (now need) × ((i : ℕ) → i < k → Costs n (now d) (now dear) (i * n)) × (m * k ≤ length (now l)) × (k ≤ length (now top)) × (k ≤ length (now lb)) × (k ≤ length (now cap)) × Completes n (of q) (of q) × Good n q ⌝ }
-    requires holds { ⌜ Holds n (Fit n (now start) (now tv) (now off) (now w) (now need) (now d) (now dear) k (now l) m) k (now d) (now dear) (inc .ok) (inc .part) (now top) ⌝ }
-    ensures { λ r. ⌜ Best n (Fit n (now (start .entry)) (now (tv .entry)) (now (off .entry)) (now (w .entry)) (now (need .entry)) (now (d .entry)) (now (dear .entry)) k (now (l .entry)) m) k (now (d .entry)) (now (dear .entry)) q (inc .ok) (now (top .entry)) (r .ok) (r .part) (now (top .exit)) ⌝ }
-{
-    if !finding::met(n, start, tv, off, w, need, q) {
-        return inc;
-    }
-    widen(n, d, dear, k, q, lb, cap);
-    if !fresh(k, &*lb, l, m) {
-        return inc;
-    }
-    let have = inc.ok;
-    if !earlier_if(have, k, &*lb, &*top) {
-        return inc;
-    }
-    copy(k, &*lb, top);
-    Cut { ok: true, part: q }
 }
 
 // The least of the incumbent and of what is fit below p. `top` is the incumbent's vector.

@@ -1,3 +1,4 @@
+// Vectors of k numbers: the one that is sure, whether a listed point dominates one, which comes first, copying.
 use narrowing::Cut;
 use narrowing::Part;
 ghost use mathlib.Core.Path.{_≡_};

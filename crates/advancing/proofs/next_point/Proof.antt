@@ -1,3 +1,4 @@
+-- The search from nothing set leaves the least vector; the smallest assignment within it has exactly that vector (next-some).
 use native.Mathlib.Omega.{arith}
 use Prim.Native.Nat.{_-_}
 use borrow.Author.Tests.{not-true, not-false}

@@ -1,3 +1,5 @@
+-- Reducing loses nothing that is wanted; a complete part is judged; else every completion is below one of the two children.
+-- What falls: the number of unset variables, by at least one at each child.
 use borrow.Author.Needs.{needs}
 use native.Mathlib.Omega.{arith}
 use Prim.Native.Nat.{_+_, _-_}
@@ -10,8 +12,8 @@ use borrow.Fn.PlainCycle.{Measures, is, falls, and}
 use Rattle.finding.proofs.find.Reads as find
 use Rattle.finding.proofs.find.Kinds as find-kinds
 use Rattle.finding.proofs.+find.Lts-find as find-lts
-use Rattle.finding.proofs.branch.Reads as branch-reads
-use Rattle.finding.proofs.cheaper.Reads as cheaper-reads
+use Rattle.finding.proofs.hints.branch.Reads as branch-reads
+use Rattle.finding.proofs.hints.cheaper.Reads as cheaper-reads
 use Rattle.finding.proofs.wanted.Reads as wanted-reads
 use Rattle.forcing.proofs.reduce.Reads as reduce-reads
 use Rattle.narrowing.proofs.put.Reads as put-reads

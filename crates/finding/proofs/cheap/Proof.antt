@@ -1,3 +1,5 @@
+-- What is sure is a lower bound, and the cost of a complete part.
+-- Invariant: the objectives below i are within their caps. Measure: k - i.
 use borrow.Author.Needs.{needs}
 use native.Mathlib.Omega.{arith}
 use Prim.Native.Nat.{ℕ, _≤_, _<_, _-_, _*_}

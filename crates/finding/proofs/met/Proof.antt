@@ -1,3 +1,5 @@
+-- A row out of reach is met by no completion; in reach of a complete part is met.
+-- Invariant: the rows below h are in reach. Measure: the rows left.
 use borrow.Author.Needs.{needs}
 use native.Mathlib.Omega.{arith}
 use Prim.Native.Nat.{ℕ, _≤_, _<_, _-_}

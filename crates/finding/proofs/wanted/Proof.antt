@@ -1,3 +1,4 @@
+-- The two tests, one after the other.
 use native.Mathlib.Omega.{arith}
 use mathlib.Core.Path.{_≡_}
 use Prim.Native.Nat.{ℕ, _-_}

@@ -1,3 +1,5 @@
+-- The charged bound with the residual of a variable on its dear side bounds the cost; beyond the cap, the variable is on its cheap side.
+-- Invariant: nothing under the cap is lost from p to q. Measure: n - v.
 use borrow.Author.Needs.{needs}
 use native.Mathlib.Omega.{arith}
 use mathlib.Core.Path.{_≡_}

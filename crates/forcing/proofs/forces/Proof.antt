@@ -1,3 +1,5 @@
+-- Each objective loses nothing that is wanted.
+-- Invariant: nothing is lost from p to q. Measure: k - i.
 use borrow.Author.Needs.{needs}
 use native.Mathlib.Omega.{arith}
 use mathlib.Core.Path.{_≡_, refl}

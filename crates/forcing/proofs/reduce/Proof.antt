@@ -1,3 +1,5 @@
+-- Rows and caps lose nothing that is wanted, however often they are asked.
+-- Invariant: nothing is lost from p to q. Measure: the unset variables, which fall until nothing more is set.
 use borrow.Author.Needs.{needs}
 use native.Mathlib.Omega.{arith}
 use mathlib.Core.Path.{_≡_, refl}

@@ -1,3 +1,4 @@
+-- Where the known witness has v off it stays; else a wanted one with v off takes its place, and where there is none v stays on.
 use mathlib.Core.Path.{_≡_, refl, _∙_}
 use native.Mathlib.Omega.{arith}
 use Prim.Native.Nat.{_-_}

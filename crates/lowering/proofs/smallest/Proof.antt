@@ -1,3 +1,5 @@
+-- With all variables settled no wanted number is smaller.
+-- Invariant: the variables from v up are settled (Lowered). Measure: v.
 use mathlib.Core.Path.{_≡_, refl}
 use native.Mathlib.Omega.{arith}
 use Prim.Native.Nat.{_+_, _-_, _≤_}

@@ -1,6 +1,6 @@
 -- No bit is set, so no variable is, and n variables are unset.
 use mathlib.Core.Path.{refl}
-use Rattle.narrowing.proofs.PartLaws.{blank-unset, blank-good}
+use Rattle.narrowing.proofs.PutLaws.{blank-unset, blank-good}
 use Rattle.narrowing.proofs.blank.Statement.{statement}
 use Rattle.narrowing.proofs.blank.Tie as tie
 

@@ -1,3 +1,5 @@
+-- Where reducing finds nothing wanted the incumbent stays; a complete part is judged by leaf; else what is wanted is below one of the two children,
+-- and the second search begins with what the first has found. What falls: the number of unset variables, by at least one at each child.
 use native.Mathlib.Omega.{arith}
 use mathlib.Core.Path.{refl}
 use Prim.Native.Nat.{_+_, _-_}
@@ -10,10 +12,10 @@ use borrow.Fn.PlainCycle.{Measures, is, falls, and}
 use Rattle.seeking.proofs.search.Reads as search′
 use Rattle.seeking.proofs.search.Kinds as search-kinds
 use Rattle.seeking.proofs.+search.Lts-search as search-lts
-use Rattle.finding.proofs.branch.Reads as branch-reads
-use Rattle.finding.proofs.cheaper.Reads as cheaper-reads
+use Rattle.finding.proofs.hints.branch.Reads as branch-reads
+use Rattle.finding.proofs.hints.cheaper.Reads as cheaper-reads
 use Rattle.narrowing.proofs.put.Reads as put-reads
-use Rattle.seeking.proofs.leaf.Reads as leaf-reads
+use Rattle.seeking.proofs.leaves.leaf.Reads as leaf-reads
 use Rattle.seeking.proofs.reduce.Reads as reduce-reads
 use Rattle.seeking.proofs.+search.{statement}
 use Rattle.seeking.proofs.+search.Tie.{close}

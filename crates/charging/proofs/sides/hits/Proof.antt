@@ -1,3 +1,4 @@
+-- By whether a is b.
 use Rattle.charging.proofs.SumLaws.{hit-eq, hit-ne}
 use mathlib.Core.Path.{sym}
 use Rattle.charging.proofs.sides.hits.Statement.{statement}

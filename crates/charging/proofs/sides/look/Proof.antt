@@ -1,3 +1,4 @@
+-- The two tests read bit v of the two words, as `seen` does.
 use mathlib.Core.Path.{_≡_, sym, _∙_}
 use native.Mathlib.Omega.{arith}
 use Rattle.charging.specs.Rows.{bit}

@@ -1,3 +1,4 @@
+-- By whether a is b.
 use Rattle.charging.proofs.SumLaws.{miss-eq, miss-ne}
 use mathlib.Core.Path.{sym}
 use Rattle.charging.proofs.sides.missed.Statement.{statement}

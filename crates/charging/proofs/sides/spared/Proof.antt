@@ -1,3 +1,4 @@
+-- By the definition, one test after the other.
 use Rattle.charging.proofs.SumLaws.{spare-none, spare-free, spare-paid, spare-charged}
 use mathlib.Core.Path.{sym}
 use Rattle.charging.proofs.sides.spared.Statement.{statement}

@@ -1,3 +1,5 @@
+-- Each step copies one more place.
+-- Invariant: the places below i are copied. Measure: k - i.
 use borrow.Author.Needs.{needs}
 use native.Mathlib.Omega.{arith}
 use mathlib.Core.Path.{_≡_, refl, _∙_}

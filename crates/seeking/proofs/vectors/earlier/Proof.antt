@@ -1,3 +1,5 @@
+-- The first place where they differ decides.
+-- Invariant: f comes before g exactly where it does from place j on. Measure: k - j.
 use borrow.Author.Needs.{needs}
 use native.Mathlib.Omega.{arith}
 use Prim.Native.Nat.{_≤_, _-_}

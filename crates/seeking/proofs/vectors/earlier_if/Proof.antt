@@ -1,3 +1,4 @@
+-- As earlier where there is an incumbent; else anything is earlier.
 use mathlib.Core.Path.{sym, _∙_}
 use Prim.Native.Nat.{_-_}
 use Rattle.charging.specs.Rows.{left}

@@ -1,3 +1,5 @@
+-- A place where f is below the point frees it; none shows that the point is at most f.
+-- Invariant: the point is at most f in the places below i. Measure: k - i.
 use borrow.Author.Needs.{needs}
 use native.Mathlib.Omega.{arith}
 use Prim.Native.Nat.{ℕ, _≤_, _<_, _+_, _-_}

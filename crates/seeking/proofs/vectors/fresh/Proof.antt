@@ -1,3 +1,5 @@
+-- One point after the other.
+-- Invariant: the first q points leave f alone. Measure: m - q.
 use borrow.Author.Needs.{needs}
 use native.Mathlib.Omega.{arith}
 use Prim.Native.Nat.{_≤_, _-_}

@@ -1,3 +1,5 @@
+-- The cost that is sure, for each objective, and a cap above every cost.
+-- Invariant: Opened for the first i objectives. Measure: k - i.
 use borrow.Author.Needs.{needs}
 use native.Mathlib.Omega.{arith}
 use mathlib.Core.Path.{_≡_, refl}

@@ -1,3 +1,5 @@
+-- As reach, with what a term gives without a charge.
+-- Invariant: sum is the span of length j. Measure: many - j.
 use borrow.Author.Needs.{needs}
 use native.Mathlib.Omega.{arith}
 use mathlib.Core.Path.{_≡_, sym, ap, _∙_}
@@ -5,8 +7,8 @@ use Prim.Native.Nat.{ℕ, _≤_, _+_, _-_, _^_}
 use lib.ListN.{getD, set}
 use Rattle.charging.specs.Rows.{span, seen, spareAt}
 use Rattle.charging.proofs.SumLaws.{span-none, span-more, span-le, spare-le}
-use Rattle.charging.proofs.cover.Statement.{statement}
-use Rattle.charging.proofs.cover.Tie as tie
+use Rattle.charging.proofs.terms.cover.Statement.{statement}
+use Rattle.charging.proofs.terms.cover.Tie as tie
 
 abbrev Inv-loop : tie.InvT-loop
 Inv-loop n tv off w set one dear o res a many sum₀ j₀ sum j = (j ≤ many) × (sum ≡ span (spareAt tv off w (seen set one) dear o res) a j)

@@ -1,3 +1,4 @@
+-- A complete part that meets the rows, is fresh and comes before the incumbent takes its place; in all other cases nothing here is wanted.
 use native.Mathlib.Omega.{arith}
 use Prim.Native.Nat.{_-_}
 use Rattle.charging.specs.Rows.{left}
@@ -5,8 +6,8 @@ use Rattle.capping.specs.Caps.{at}
 use borrow.Author.Tests.{not-true, not-false}
 use Rattle.seeking.proofs.SeekLaws.{leaf-unmet, leaf-stale, leaf-later, leaf-taken}
 use borrow.Author.Needs.{needs}
-use Rattle.seeking.proofs.leaf.Statement.{statement}
-use Rattle.seeking.proofs.leaf.Tie as tie
+use Rattle.seeking.proofs.leaves.leaf.Statement.{statement}
+use Rattle.seeking.proofs.leaves.leaf.Tie as tie
 
 met-requires : tie.Need-met-requires
 met-requires c κs = search needs

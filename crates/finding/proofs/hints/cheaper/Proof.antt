@@ -1,8 +1,10 @@
+-- Each step keeps a side.
+-- Invariant: b is a side. Measure: k - i.
 use borrow.Author.Needs.{needs}
 use native.Mathlib.Omega.{arith}
 use Prim.Native.Nat.{_≤_, _<_, _-_}
-use Rattle.finding.proofs.cheaper.Statement.{statement}
-use Rattle.finding.proofs.cheaper.Tie as tie
+use Rattle.finding.proofs.hints.cheaper.Statement.{statement}
+use Rattle.finding.proofs.hints.cheaper.Tie as tie
 
 abbrev Inv-loop : tie.InvT-loop
 Inv-loop n d dear k v b₀ most₀ i₀ b most i = (b < 2) × (i ≤ k)

@@ -1,3 +1,5 @@
+-- The sum over the first j terms is the span of length j; each term is at most 2 ^ 34, so nothing overflows.
+-- Invariant: sum is the span of length j. Measure: many - j.
 use borrow.Author.Needs.{needs}
 use native.Mathlib.Omega.{arith}
 use mathlib.Core.Path.{_≡_, sym, ap, _∙_}
@@ -5,8 +7,8 @@ use Prim.Native.Nat.{ℕ, _≤_, _+_, _-_, _^_}
 use lib.ListN.{getD, set}
 use Rattle.charging.specs.Rows.{span, term, seen}
 use Rattle.charging.proofs.SumLaws.{span-none, span-more, span-le, miss-le}
-use Rattle.charging.proofs.reach.Statement.{statement}
-use Rattle.charging.proofs.reach.Tie as tie
+use Rattle.charging.proofs.terms.reach.Statement.{statement}
+use Rattle.charging.proofs.terms.reach.Tie as tie
 
 abbrev Inv-loop : tie.InvT-loop
 Inv-loop n tv off w set one a many sum₀ j₀ sum j = (j ≤ many) × (sum ≡ span (term tv off w (seen set one)) a j)

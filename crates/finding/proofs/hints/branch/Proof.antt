@@ -1,3 +1,5 @@
+-- The first unset variable of the order; where it names none, a scan over all finds one or shows that none is.
+-- Invariants: i is within the order; no variable below u is unset. Measures: what is left of each.
 use borrow.Author.Needs.{needs}
 use native.Mathlib.Omega.{arith}
 use mathlib.Core.Path.{_≡_, refl, sym, _∙_}
@@ -6,8 +8,8 @@ use Prim.Native.Nat.{ℕ, _≤_, _<_, _-_}
 use lib.ListN.{length, set}
 use borrow.Author.Count.{below-more, below-none}
 use Rattle.charging.specs.Rows.{left, seen}
-use Rattle.finding.proofs.branch.Statement.{statement}
-use Rattle.finding.proofs.branch.Tie as tie
+use Rattle.finding.proofs.hints.branch.Statement.{statement}
+use Rattle.finding.proofs.hints.branch.Tie as tie
 
 abbrev Inv-loop : tie.InvT-loop
 Inv-loop n order p i₀ i = i ≤ length order

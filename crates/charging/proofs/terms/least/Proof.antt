@@ -1,11 +1,13 @@
+-- Each step lowers m to at most what is left to charge at one more chargeable term.
+-- Invariant: m is at most that at each of the first j terms. Measure: many - j.
 use borrow.Author.Needs.{needs}
 use native.Mathlib.Omega.{arith}
 use mathlib.Core.Path.{_≡_}
 use Prim.Native.Nat.{ℕ, _≤_, _<_, _+_, _-_, _^_}
 use lib.ListN.{getD}
 use borrow.Author.Count.{below-more, below-none}
-use Rattle.charging.proofs.least.Statement.{statement}
-use Rattle.charging.proofs.least.Tie as tie
+use Rattle.charging.proofs.terms.least.Statement.{statement}
+use Rattle.charging.proofs.terms.least.Tie as tie
 
 abbrev Inv-loop : tie.InvT-loop
 Inv-loop n tv off w dear o res a many m₀ j₀ m j = (j ≤ many) × (m ≤ 2 ^ 34) × ((k : ℕ) → k < j → (getD dear (o + getD tv (a + k) 0) 0 ≡ getD off (a + k) 0 → ⊥) → (getD res (getD tv (a + k) 0) 0 ≡ 0 → ⊥) → m ≤ getD res (getD tv (a + k) 0) 0)

@@ -1,3 +1,5 @@
+-- Each step takes m off at one more term and raises nothing, so what was taken off stays off.
+-- Invariant: Paid over the first j terms. Measure: many - j.
 use borrow.Author.Needs.{needs}
 use native.Mathlib.Omega.{arith}
 use mathlib.Core.Path.{_≡_, refl}
@@ -5,8 +7,8 @@ use Prim.Native.Nat.{_≤_, _+_, _-_}
 use lib.ListN.{length}
 use Rattle.charging.specs.Rows.{Paid}
 use Rattle.charging.proofs.ChargeLaws.{paid-none, paid-more}
-use Rattle.charging.proofs.pay.Statement.{statement}
-use Rattle.charging.proofs.pay.Tie as tie
+use Rattle.charging.proofs.terms.pay.Statement.{statement}
+use Rattle.charging.proofs.terms.pay.Tie as tie
 
 abbrev Inv-loop : tie.InvT-loop
 Inv-loop n tv off w dear o res₀ a many m j₀ res j = (j ≤ many) × (length res ≡ length res₀) × Paid n tv off dear o a j m res₀ res
