@@ -1,4 +1,4 @@
--- Laws of caps. Assumes nothing.
+-- The order of vectors by the first place where they differ: transitive, decided place by place, and falling with its left side.
 use mathlib.Core.Path.{_≡_, refl, sym, _∙_}
 use mathlib.Core.Logic.{_⊎_, inl, inr, ⊎-elim}
 use mathlib.Core.Bool.{Bool, true, false}

@@ -1,1 +1,2 @@
+-- Read Caps.
 pub mod Caps

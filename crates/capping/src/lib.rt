@@ -1,3 +1,8 @@
+// Capping (R3 and R4): caps on the objectives from lower bounds, an incumbent and the listed points.
+//
+// caps(.., l, m, have, top, p, lb, cap)   charged lower bounds in lb; in cap, caps for all that is wanted below p; or that nothing is
+//
+// Listed points: the k numbers of point q begin at q * k in l. Read specs/Caps.antt; proofs/CapLaws.antt has the argument.
 use narrowing::Part;
 ghost use mathlib.Core.Path.{_≡_};
 ghost use mathlib.Core.Logic.{_⊎_};
@@ -7,6 +12,7 @@ ghost use lib.ListN.{length};
 ghost use Rattle.charging.specs.Rows.{Table, Meets, Costs};
 ghost use Rattle.capping.specs.Caps.{vec, less, at, Free, Fresh, Tight, Capped, Low};
 
+// The lesser of two.
 pub fn min(a: u64, b: u64) -> u64
     ensures { λ r. ⌜ ((r ≡ a) ⊎ (r ≡ b)) × (r ≤ a) ⌝ }
 {

@@ -1,4 +1,4 @@
--- Bits of a word. Assumes nothing.
+-- Bits of a word: bit v is a / 2 ^ v % 2, and adding 2 ^ v where it is 0 sets it and no other bit.
 use mathlib.Core.Path.{_≡_, refl, ap, sym, _∙_}
 use Prim.Native.Nat.{ℕ, zero, suc, _+_, _-_, _/_, _%_, _^_, _<_}
 use native.Mathlib.Nat.{not-suc-le-zero, le-of-suc-le-suc, pow-succ', two-mul, div-one, div-div-eq-div-mul}

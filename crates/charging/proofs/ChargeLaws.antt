@@ -1,4 +1,8 @@
--- The laws of the search. Assumes nothing.
+-- R1: a term gives under a completion at most what it gives while its variable is unset, so the left side of a row can only fall.
+-- R2: where the row cannot do without a term, a completion that meets it has the term's variable on the helping side.
+-- R5: let the terms that need no charge give too little for the row. A completion that meets the row has some other term helping; its variable stands
+-- on its dear side with something left to charge. Taking m off each such variable (m at most what is left at any of them) and adding m to the
+-- bound keeps: bound + what is left on dear sides ≤ cost, for every completion that meets the rows.
 use mathlib.Core.Path.{_≡_, sym, subst, _∙_}
 use mathlib.Core.Logic.{_⊎_, ⊎-elim}
 use mathlib.Core.List.{List}

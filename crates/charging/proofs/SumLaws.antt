@@ -1,4 +1,4 @@
--- Laws of sums. Assumes nothing.
+-- Sums over a run of places: they rise with their terms, and a greater sum has a greater term. Then hit, miss and spare by cases.
 use mathlib.Core.Path.{_≡_, refl}
 use mathlib.Core.Logic.{_⊎_, inl, inr, ⊎-elim}
 use mathlib.Core.Bool.{Bool, true, false}

@@ -1,187 +1,32 @@
+// Charging (R1 and R5): what a partial assignment leaves in reach of a row, and a lower bound of an objective over all completions that meet the rows.
+//
+// look(set, one, v)    how the variable v stands: 0, 1, or 2 for unset
+// reach(..)            the greatest left side of a row that is still in reach
+// sure(..)             the cost of the variables that are set
+// charge(.., res)      a lower bound of the cost, and in `res` what each variable may still be charged
+//
+// The tables, lent by the caller. Half rows, one after the other: row h has the terms from start[h] to start[h + 1], and needs need[h]; term k
+// gives w[k] unless its variable tv[k] stands at off[k]. Objectives: the n numbers of objective i begin at o = i * n; variable v costs d[o + v] where
+// it stands at dear[o + v]. A partial assignment is two words: `set` has the variables that are set, `one` those at 1.
+// All numbers are unsigned. Read specs/Rows.antt; proofs/ChargeLaws.antt has the argument.
+mod sides;
+mod terms;
+
+pub use sides::hits;
+pub use sides::look;
+pub use sides::lower;
+pub use sides::missed;
+pub use sides::owe;
+pub use sides::paid;
+pub use sides::spared;
+pub use terms::cover;
+pub use terms::least;
+pub use terms::pay;
+pub use terms::reach;
 ghost use mathlib.Core.Path.{_≡_};
-ghost use Prim.Native.Nat.{ℕ, _+_, _-_, _*_, _^_, _<_, _≤_};
-ghost use lib.ListN.{length, getD};
-ghost use Rattle.charging.specs.Rows.{hit, miss, spare, span, term, seen, Terms, Table, cost, spareAt, Paid, Charged, Costs, Owed, Step};
-
-// How the variable v stands: 2 where it is unset.
-pub fn look(set: u64, one: u64, v: usize) -> u8
-    requires { ⌜ v < 64 ⌝ }
-    ensures { λ r. ⌜ r ≡ seen set one v ⌝ }
-{
-    if (set >> v) % 2 == 0 {
-        return 2;
-    }
-    if (one >> v) % 2 == 0 {
-        return 0;
-    }
-    1
-}
-
-pub fn missed(a: u8, b: u8, w: u64) -> u64
-    ensures { λ r. ⌜ r ≡ miss a b w ⌝ }
-{
-    if a == b {
-        return 0;
-    }
-    w
-}
-
-pub fn hits(a: u8, b: u8, w: u64) -> u64
-    ensures { λ r. ⌜ r ≡ hit a b w ⌝ }
-{
-    if a == b {
-        return w;
-    }
-    0
-}
-
-pub fn spared(y: u8, off: u8, dear: u8, res: u64, w: u64) -> u64
-    ensures { λ r. ⌜ r ≡ spare y off dear res w ⌝ }
-{
-    if y == off {
-        return 0;
-    }
-    if dear == off {
-        return w;
-    }
-    if res == 0 {
-        return w;
-    }
-    0
-}
-
-// m, or res where it is chargeable and less.
-pub fn lower(m: u64, off: u8, dear: u8, res: u64) -> u64
-    ensures { λ r. ⌜ (r ≤ m) × ((dear ≡ off → ⊥) → (res ≡ 0 → ⊥) → r ≤ res) ⌝ }
-{
-    if dear == off {
-        return m;
-    }
-    if res == 0 {
-        return m;
-    }
-    if res < m {
-        return res;
-    }
-    m
-}
-
-// res, less m where the side is dear.
-pub fn paid(m: u64, off: u8, dear: u8, res: u64) -> u64
-    ensures { λ r. ⌜ (r ≤ res) × ((dear ≡ off → ⊥) → r ≤ res - m) ⌝ }
-{
-    if dear == off {
-        return res;
-    }
-    if res < m {
-        return 0;
-    }
-    res - m
-}
-
-// The greatest sum of the `many` terms from a on that val leaves in reach.
-pub fn reach(
-    n: usize,
-    tv: &[usize],
-    off: &[u8],
-    w: &[u64],
-    set: u64,
-    one: u64,
-    a: usize,
-    many: usize,
-) -> u64
-    requires { ⌜ Terms n (now tv) (now off) (now w) × (a + many ≤ length (now tv)) ⌝ }
-    ensures { λ r. ⌜ r ≡ span (term (now (tv .entry)) (now (off .entry)) (now (w .entry)) (seen set one)) a many ⌝ }
-{
-    let mut sum: u64 = 0;
-    let mut j = 0;
-    while j < many {
-        let k = a + j;
-        let v = tv[k];
-        sum += missed(look(set, one, v), off[k], w[k]);
-        j += 1;
-    }
-    sum
-}
-
-// What the terms that need no charge can give.
-pub fn cover(
-    n: usize,
-    tv: &[usize],
-    off: &[u8],
-    w: &[u64],
-    set: u64,
-    one: u64,
-    dear: &[u8],
-    o: usize,
-    res: &[u64],
-    a: usize,
-    many: usize,
-) -> u64
-    requires { ⌜ Terms n (now tv) (now off) (now w) × (a + many ≤ length (now tv)) × (o + n ≤ length (now dear)) × (n ≤ length (now res)) ⌝ }
-    ensures { λ r. ⌜ r ≡ span (spareAt (now (tv .entry)) (now (off .entry)) (now (w .entry)) (seen set one) (now (dear .entry)) o (now (res .entry))) a many ⌝ }
-{
-    let mut sum: u64 = 0;
-    let mut j = 0;
-    while j < many {
-        let k = a + j;
-        let v = tv[k];
-        sum += spared(look(set, one, v), off[k], dear[o + v], res[v], w[k]);
-        j += 1;
-    }
-    sum
-}
-
-// At most what is left to charge at each chargeable term.
-pub fn least(
-    n: usize,
-    tv: &[usize],
-    off: &[u8],
-    w: &[u64],
-    dear: &[u8],
-    o: usize,
-    res: &[u64],
-    a: usize,
-    many: usize,
-) -> u64
-    requires { ⌜ Terms n (now tv) (now off) (now w) × (a + many ≤ length (now tv)) × (o + n ≤ length (now dear)) × (n ≤ length (now res)) ⌝ }
-    ensures { λ r. ⌜ (r ≤ 2 ^ 34) × ((k : ℕ) → k < many → (getD (now (dear .entry)) (o + getD (now (tv .entry)) (a + k) 0) 0 ≡ getD (now (off .entry)) (a + k) 0 → ⊥) → (getD (now (res .entry)) (getD (now (tv .entry)) (a + k) 0) 0 ≡ 0 → ⊥) → r ≤ getD (now (res .entry)) (getD (now (tv .entry)) (a + k) 0) 0) ⌝ }
-{
-    let mut m: u64 = 17179869184;
-    let mut j = 0;
-    while j < many {
-        let k = a + j;
-        let v = tv[k];
-        m = lower(m, off[k], dear[o + v], res[v]);
-        j += 1;
-    }
-    m
-}
-
-// Takes m off what is left to charge at each chargeable term.
-pub fn pay(
-    n: usize,
-    tv: &[usize],
-    off: &[u8],
-    w: &[u64],
-    dear: &[u8],
-    o: usize,
-    res: &mut [u64],
-    a: usize,
-    many: usize,
-    m: u64,
-)
-    requires { ⌜ Terms n (now tv) (now off) (now w) × (a + many ≤ length (now tv)) × (o + n ≤ length (now dear)) × (n ≤ length (now res)) ⌝ }
-    ensures { λ _. ⌜ Paid n (now (tv .entry)) (now (off .entry)) (now (dear .entry)) o a many m (now (res .entry)) (now (res .exit)) ⌝ }
-{
-    let mut j = 0;
-    while j < many {
-        let k = a + j;
-        let v = tv[k];
-        res[v] = paid(m, off[k], dear[o + v], res[v]);
-        j += 1;
-    }
-}
+ghost use Prim.Native.Nat.{_+_, _-_, _*_, _^_, _<_, _≤_};
+ghost use lib.ListN.{length};
+ghost use Rattle.charging.specs.Rows.{seen, Table, cost, Charged, Costs, Owed, Step};
 
 // The cost that is sure.
 pub fn sure(n: usize, d: &[u64], dear: &[u8], o: usize, set: u64, one: u64) -> u64
@@ -195,16 +40,6 @@ pub fn sure(n: usize, d: &[u64], dear: &[u8], o: usize, set: u64, one: u64) -> u
         v += 1;
     }
     sum
-}
-
-// d, where the variable is unset.
-pub fn owe(y: u8, d: u64) -> u64
-    ensures { λ r. ⌜ (y ≡ 2 → r ≡ d) × ((y ≡ 2 → ⊥) → r ≡ 0) ⌝ }
-{
-    if y == 2 {
-        return d;
-    }
-    0
 }
 
 // What is left to charge at the start.

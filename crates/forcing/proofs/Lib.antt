@@ -1,1 +1,2 @@
-pub mod FindLaws
+-- For the crates above: R6, and that the sure cost is a lower bound.
+pub mod ForceLaws

@@ -1,42 +1,20 @@
--- What hunt's contracts cite. Assumes nothing: these are definitions.
-use mathlib.Core.Path.{_≡_}
-use mathlib.Core.Logic.{_⊎_}
-use mathlib.Core.Bool.{Bool, true, false}
+-- What is wanted under caps.
 use mathlib.Core.List.{List}
 use Prim.Native.Nat.{ℕ, _*_, _≤_, _<_}
 use lib.ListN.{length, getD}
-use Rattle.charging.specs.Rows.{Completes, Meets, cost, Costs}
-use Rattle.narrowing.specs.declared.Part.{Part}
-use Rattle.narrowing.specs.Parts.{of}
+use Rattle.charging.specs.Rows.{Meets, cost, Costs}
 
--- k objectives: those of objective i begin at i * n
+-- There are k objectives: the numbers of objective i begin at i * n.
 pub record Objectives (n k : ℕ) (d dear caps : List ℕ) : Type 0 where
   pub each : (i : ℕ) → i < k → Costs n d dear (i * n)
   pub room : k ≤ length caps
 
--- x meets the rows, and the objective at o costs at most cap
+-- x meets the rows, and the objective at o costs at most cap.
 pub record Under (n : ℕ) (start tv off w need d dear : List ℕ) (o cap : ℕ) (x : ℕ → ℕ) : Type 0 where
   pub meets : Meets start tv off w need x
   pub under : cost n d dear o x ≤ cap
 
--- x meets the rows, and each of the k objectives costs at most its cap
+-- x meets the rows, and each of the k objectives costs at most its cap.
 pub record Wanted (n : ℕ) (start tv off w need d dear : List ℕ) (k : ℕ) (caps : List ℕ) (x : ℕ → ℕ) : Type 0 where
   pub meets : Meets start tv off w need x
   pub under : (i : ℕ) → i < k → cost n d dear (i * n) x ≤ getD caps i 0
-
--- v is an unset variable of p, or p is complete
-abbrev pub Branch : ℕ → Part → ℕ → Type 0
-Branch n p v = ((v < n) × (of p v ≡ 2)) ⊎ ((v ≡ n) × ((u : ℕ) → u < n → of p u ≡ 2 → ⊥))
-
--- a wanted completion of p, or that there is none
-pub record Finds (n : ℕ) (W : (ℕ → ℕ) → Type 0) (p : Part) (ok : Bool) (q : Part) : Type 0 where
-  pub some : ok ≡ true → Completes n (of p) (of q) × W (of q)
-  pub none : ok ≡ false → (x : ℕ → ℕ) → Completes n (of p) x → W x → ⊥
-
--- p itself has W, or no completion of p has
-pub record Tells (n : ℕ) (W : (ℕ → ℕ) → Type 0) (p : Part) (r : Bool) : Type 0 where
-  pub yes : r ≡ true → W (of p)
-  pub no : r ≡ false → (x : ℕ → ℕ) → Completes n (of p) x → W x → ⊥
-
-abbrev pub Cheap : ℕ → List ℕ → List ℕ → ℕ → List ℕ → (ℕ → ℕ) → Type 0
-Cheap n d dear k caps x = (i : ℕ) → i < k → cost n d dear (i * n) x ≤ getD caps i 0

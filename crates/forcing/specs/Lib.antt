@@ -1,1 +1,2 @@
+-- Read Goals.
 pub mod Goals

@@ -1,11 +1,17 @@
+// Forcing (R6): what caps on the objectives force in a partial assignment.
+//
+// forces(.., caps, p)   sets a variable to its cheap side where the charged bound and its dear side would pass a cap
+// reduce(.., caps, p)   rows and caps, until nothing more is forced
+//
+// An assignment is wanted where it meets the rows and costs at most the cap by each objective. Read specs/Goals.antt.
 use narrowing::Cut;
 use narrowing::Part;
 ghost use mathlib.Core.Bool.{true, false};
 ghost use Prim.Native.Nat.{_+_, _-_, _*_, _<_, _≤_};
 ghost use lib.ListN.{length, getD};
-ghost use Rattle.charging.specs.Rows.{left, Table, Meets, Costs};
+ghost use Rattle.charging.specs.Rows.{left, Table, Costs};
 ghost use Rattle.narrowing.specs.Parts.{Good, Cuts, Maybe};
-ghost use Rattle.forcing.specs.Goals.{Objectives, Under, Wanted, Branch, Finds, Tells, Cheap};
+ghost use Rattle.forcing.specs.Goals.{Objectives, Under, Wanted};
 
 // Sets v to its cheap side, where its dear side would cost too much.
 pub fn bar(n: usize, dear: &[u8], o: usize, v: usize, lim: u64, res: &[u64], p: Part) -> Part
@@ -123,160 +129,4 @@ pub fn reduce(
             return e;
         }
     }
-}
-
-// An unset variable, by the order that is asked for; n where there is none. Any list serves as the order.
-pub fn branch(n: usize, order: &[usize], p: Part) -> usize
-    requires { ⌜ n ≤ 64 ⌝ }
-    ensures { λ r. ⌜ Branch n p r ⌝ }
-{
-    let mut i = 0;
-    while i < order.len() {
-        let v = order[i];
-        if v < n {
-            let y = charging::look(p.set, p.one, v);
-            if y == 2 {
-                return v;
-            }
-        }
-        i += 1;
-    }
-    let mut u = 0;
-    while u < n {
-        let y = charging::look(p.set, p.one, u);
-        if y == 2 {
-            return u;
-        }
-        u += 1;
-    }
-    n
-}
-
-// Whether every row can still be met.
-pub fn met(
-    n: usize,
-    start: &[usize],
-    tv: &[usize],
-    off: &[u8],
-    w: &[u64],
-    need: &[u64],
-    p: Part,
-) -> bool
-    requires { ⌜ Table n (now start) (now tv) (now off) (now w) (now need) ⌝ }
-    ensures { λ r. ⌜ Tells n (Meets (now (start .entry)) (now (tv .entry)) (now (off .entry)) (now (w .entry)) (now (need .entry))) p r ⌝ }
-{
-    let mut h = 0;
-    while h < need.len() {
-        let a = start[h];
-        let many = start[h + 1] - a;
-        if charging::reach(n, tv, off, w, p.set, p.one, a, many) < need[h] {
-            return false;
-        }
-        h += 1;
-    }
-    true
-}
-
-// Whether what is sure is within every cap.
-pub fn cheap(n: usize, d: &[u64], dear: &[u8], k: usize, caps: &[u64], p: Part) -> bool
-    requires { ⌜ Objectives n k (now d) (now dear) (now caps) × (n ≤ 64) ⌝ }
-    ensures { λ r. ⌜ Tells n (Cheap n (now (d .entry)) (now (dear .entry)) k (now (caps .entry))) p r ⌝ }
-{
-    let mut i = 0;
-    while i < k {
-        if caps[i] < charging::sure(n, d, dear, i * n, p.set, p.one) {
-            return false;
-        }
-        i += 1;
-    }
-    true
-}
-
-// Whether p is wanted, if it is complete.
-pub fn wanted(
-    n: usize,
-    start: &[usize],
-    tv: &[usize],
-    off: &[u8],
-    w: &[u64],
-    need: &[u64],
-    d: &[u64],
-    dear: &[u8],
-    k: usize,
-    caps: &[u64],
-    p: Part,
-) -> bool
-    requires { ⌜ Table n (now start) (now tv) (now off) (now w) (now need) × Objectives n k (now d) (now dear) (now caps) ⌝ }
-    ensures { λ r. ⌜ Tells n (Wanted n (now (start .entry)) (now (tv .entry)) (now (off .entry)) (now (w .entry)) (now (need .entry)) (now (d .entry)) (now (dear .entry)) k (now (caps .entry))) p r ⌝ }
-{
-    if met(n, start, tv, off, w, need, p) {
-        return cheap(n, d, dear, k, caps, p);
-    }
-    false
-}
-
-// A wanted completion of p, if there is one.
-pub fn find(
-    n: usize,
-    start: &[usize],
-    tv: &[usize],
-    off: &[u8],
-    w: &[u64],
-    need: &[u64],
-    d: &[u64],
-    dear: &[u8],
-    k: usize,
-    caps: &[u64],
-    order: &[usize],
-    res: &mut [u64],
-    p: Part,
-) -> Cut
-    requires { ⌜ Table n (now start) (now tv) (now off) (now w) (now need) × Objectives n k (now d) (now dear) (now caps) × (n ≤ length (now res)) × Good n p ⌝ }
-    ensures { λ r. ⌜ Finds n (Wanted n (now (start .entry)) (now (tv .entry)) (now (off .entry)) (now (w .entry)) (now (need .entry)) (now (d .entry)) (now (dear .entry)) k (now (caps .entry))) p (r .ok) (r .part) ⌝ }
-{
-    let c = reduce(n, start, tv, off, w, need, d, dear, k, caps, res, p);
-    let ok = c.ok;
-    if !ok {
-        return c;
-    }
-    let q = c.part;
-    let v = branch(n, order, q);
-    if v == n {
-        let yes = wanted(n, start, tv, off, w, need, d, dear, k, caps, q);
-        return Cut { ok: yes, part: q };
-    }
-    let first = find(
-        n,
-        start,
-        tv,
-        off,
-        w,
-        need,
-        d,
-        dear,
-        k,
-        caps,
-        order,
-        res,
-        narrowing::put(n, q, v, 0),
-    );
-    let got = first.ok;
-    if got {
-        return first;
-    }
-    find(
-        n,
-        start,
-        tv,
-        off,
-        w,
-        need,
-        d,
-        dear,
-        k,
-        caps,
-        order,
-        res,
-        narrowing::put(n, q, v, 1),
-    )
 }

@@ -1,37 +1,17 @@
--- Laws of partial assignments. Assumes nothing.
-use mathlib.Core.Path.{_≡_, refl, ap, sym, subst, _∙_}
+-- Setting a variable to b loses nothing that is wanted where no wanted completion has it at the other side; losing nothing is transitive.
+use mathlib.Core.Path.{_≡_, refl, ap, sym, _∙_}
 use mathlib.Core.Logic.{_⊎_, ⊎-elim}
 use mathlib.Core.Bool.{Bool, true, false}
 use mathlib.Core.List.{List}
-use Prim.Native.Nat.{ℕ, suc, _+_, _-_, _*_, _%_, _^_, _≤_, _<_}
-use native.Mathlib.Nat.{le-refl, zero-add, one-mul, pow-succ', two-mul, mod-eq-of-lt}
-use lib.Pow.{pow-mono, pow-pos}
+use Prim.Native.Nat.{ℕ, _+_, _-_, _≤_, _<_}
+use native.Mathlib.Nat.{le-refl}
 use native.Mathlib.Omega.{arith}
 use lib.ListN.{length, getD}
-use Rattle.charging.specs.Rows.{hit, left, bit, seen, Table, Completes, Meets}
-use Rattle.charging.proofs.SumLaws.{span-drop, hit-eq, hit-ne, eq-or}
-use Rattle.charging.proofs.BitLaws.{bit-two, set-same, set-other, set-fits, seen-unset, seen-set}
+use Rattle.charging.specs.Rows.{left, Table, Completes, Meets}
+use Rattle.charging.proofs.SumLaws.{eq-or}
 use Rattle.charging.proofs.ChargeLaws.{forced, in-row}
 use Rattle.narrowing.specs.declared.Part.{Part}
-use Rattle.narrowing.specs.Parts.{unset, of, Good, Put, Narrows, Leads, Cuts, Maybe}
-
--- an unset variable's bit
-pub unset-bit : (s o v : ℕ) → seen s o v ≡ 2 → bit s v ≡ 0
-unset-bit s o v e = ⊎-elim (λ z. z) (λ z. absurd (omega (arith, seen-set s o v z, bit-two o v))) (eq-or (bit s v) 0)
-
--- one variable fewer is unset
-pub unset-less : (n s v : ℕ) → v < n → bit s v ≡ 0 → unset n (s + 2 ^ v) + 1 ≤ unset n s
-unset-less n s v l e =
-    span-drop (λ (u : ℕ). hit (bit (s + 2 ^ v) u) 0 1) (λ (u : ℕ). hit (bit s u) 0 1) 0 n v 1 (λ u i. rw zero-add (each u))
-    l (rw zero-add (omega (arith, hit-eq (bit s v) 0 1 e, hit-ne (bit (s + 2 ^ v) v) 0 1 (λ z. omega (arith, set-same s v e)))))
-  where
-    each : (u : ℕ) → hit (bit (s + 2 ^ v) u) 0 1 ≤ hit (bit s u) 0 1
-    each u =
-        ⊎-elim
-        (λ z. let same : bit (s + 2 ^ v) v ≡ 1 = set-same s v e in
-        let off : hit (bit (s + 2 ^ v) u) 0 1 ≡ 0 = subst (λ (k : ℕ). hit (bit (s + 2 ^ v) k) 0 1 ≡ 0) (sym z) (hit-ne (bit (s + 2 ^ v) v) 0 1 (λ y. omega arith)) in omega arith)
-        (λ z. rw (set-other s v u e z) (le-refl (hit (bit s u) 0 1)))
-        (eq-or u v)
+use Rattle.narrowing.specs.Parts.{of, Good, Put, Narrows, Leads, Cuts, Maybe}
 
 pub two-of : (a b : ℕ) → a < 2 → b < 2 → (a ≡ 1 - b → ⊥) → a ≡ b
 two-of a b l m f = ⊎-elim (λ e. e) (λ e. absurd (f (omega (arith, e)))) (eq-or a b)
@@ -85,71 +65,6 @@ module _ (n : ℕ) (W : (ℕ → ℕ) → Type 0) where
 pub leads-less : (n : ℕ) (W U : (ℕ → ℕ) → Type 0) (p q : Part) → ((x : ℕ → ℕ) → U x → W x) → Leads n W p q → Leads n U p q
 leads-less n W U p q f a =
     record { good = a .good; narrows = record { more = a .narrows .more; keep = λ x c v. a .narrows .keep x c (f x v) }; fewer = a .fewer }
-
-put-sub : (p : Part) (n v : ℕ) → Good n p → bit (p .set) v ≡ 0 → (u : ℕ) → bit (p .set + 2 ^ v) u ≡ 0 → bit (p .one) u ≡ 0
-put-sub p n v g e u z =
-    ⊎-elim
-    (λ y. absurd (omega (arith, set-same (p .set) v e, subst (λ (k : ℕ). bit (p .set + 2 ^ v) k ≡ 0) y z)))
-    (λ y. g .sub u (sym (set-other (p .set) v u e y) ∙ z))
-    (eq-or u v)
-
-put-others : (s o o′ v : ℕ) → bit s v ≡ 0 → (u : ℕ) → (u ≡ v → ⊥) → bit o′ u ≡ bit o u → seen (s + 2 ^ v) o′ u ≡ seen s o u
-put-others s o o′ v e u f z =
-    let k = set-other s v u e f in
-    ⊎-elim
-    (λ y. seen-unset (s + 2 ^ v) o′ u (k ∙ y) ∙ sym (seen-unset s o u y))
-    (λ y. seen-set (s + 2 ^ v) o′ u (λ x. y (sym k ∙ x)) ∙ z ∙ sym (seen-set s o u y))
-    (eq-or (bit s u) 0)
-
-put-count : (n : ℕ) (p : Part) (v : ℕ) → Good n p → v < n → bit (p .set) v ≡ 0 → (unset n (p .set + 2 ^ v) ≤ p .left - 1) × (p .left - 1 + 1 ≡ p .left)
-put-count n p v g l e = let one = unset-less n (p .set) v l e in let two = g .count in (omega arith, omega arith)
-
-pub put-zero : (n : ℕ) (p : Part) (v : ℕ) (q : Part) → Good n p → v < n → of p v ≡ 2 → q .set ≡ p .set + 2 ^ v → q .one ≡ p .one → q .left ≡ p .left - 1 → Put n p v 0 q
-put-zero n p v q g l u es eo el =
-    let e = unset-bit (p .set) (p .one) v u in
-    let k = put-count n p v g l e in
-    record {
-      good = record { sub = λ i z. rw eo (put-sub p n v g e i (rw es at z)); count = rw (es, el) (k .0) };
-      here = rw (es, eo) (seen-set (p .set + 2 ^ v) (p .one) v (λ z. omega (arith, set-same (p .set) v e)) ∙ g .sub v e);
-      others = λ i f. rw (es, eo) (put-others (p .set) (p .one) (p .one) v e i f refl);
-      fewer = rw el (k .1);
-    }
-
-pub put-one : (n : ℕ) (p : Part) (v : ℕ) (q : Part) → Good n p → v < n → of p v ≡ 2 → q .set ≡ p .set + 2 ^ v → q .one ≡ p .one + 2 ^ v → q .left ≡ p .left - 1 → Put n p v 1 q
-put-one n p v q g l u es eo el =
-    let e = unset-bit (p .set) (p .one) v u in
-    let z₁ = g .sub v e in
-    let k = put-count n p v g l e in
-    record {
-      good = record { sub = λ i z. rw eo (sub i (rw es at z)); count = rw (es, el) (k .0) };
-      here = rw (es, eo) (seen-set (p .set + 2 ^ v) (p .one + 2 ^ v) v (λ z. omega (arith, set-same (p .set) v e)) ∙ set-same (p .one) v z₁);
-      others = λ i f. rw (es, eo) (put-others (p .set) (p .one) (p .one + 2 ^ v) v e i f (set-other (p .one) v i z₁ f));
-      fewer = rw el (k .1);
-    }
-  where
-    sub : (i : ℕ) → bit (p .set + 2 ^ v) i ≡ 0 → bit (p .one + 2 ^ v) i ≡ 0
-    sub i z =
-        let e = unset-bit (p .set) (p .one) v u in
-        ⊎-elim
-        (λ y. absurd (omega (arith, set-same (p .set) v e, subst (λ (k : ℕ). bit (p .set + 2 ^ v) k ≡ 0) y z)))
-        (λ y. set-other (p .one) v i (g .sub v e) y ∙ put-sub p n v g e i z)
-        (eq-or i v)
-
--- room for one more
-pub put-left : (n : ℕ) (p : Part) (v : ℕ) → Good n p → v < n → of p v ≡ 2 → 1 ≤ p .left
-put-left n p v g l u = let k = unset-less n (p .set) v l (unset-bit (p .set) (p .one) v u) in let two = g .count in omega arith
-
-pub shifted : (v : ℕ) → v < 64 → 1 * 2 ^ v % 18446744073709551616 ≡ 2 ^ v
-shifted v l =
-    let p : 2 ^ suc v ≤ 2 ^ 64 = pow-mono l in
-    let t : 2 ^ suc v ≡ 2 ^ v + 2 ^ v = pow-succ' 2 v ∙ two-mul (2 ^ v) in
-    let q : 1 ≤ 2 ^ v = pow-pos v in
-    rw one-mul (mod-eq-of-lt (omega arith))
-
-pub set-room : (n : ℕ) (p : Part) (v : ℕ) → Good n p → of p v ≡ 2 → v < 64 → (p .set < 2 ^ 64 → p .set + 1 * 2 ^ v % 18446744073709551616 < 2 ^ 64) × (p .one < 2 ^ 64 → p .one + 1 * 2 ^ v % 18446744073709551616 < 2 ^ 64)
-set-room n p v g u l =
-    let e = unset-bit (p .set) (p .one) v u in
-    (λ h. rw (shifted v l) (set-fits 64 (p .set) v h l e), λ h. rw (shifted v l) (set-fits 64 (p .one) v h l (g .sub v e)))
 
 pub maybe-leads : (n : ℕ) (W : (ℕ → ℕ) → Type 0) (p q : Part) (v b : ℕ) (why : Type 0) (r : Part) → Leads n W p q → Maybe n q v b why r → v < n → b < 2
     → (why → of p v ≡ 2 → (x : ℕ → ℕ) → Completes n (of p) x → W x → x v ≡ 1 - b → ⊥) → Leads n W p r

@@ -1,6 +1,12 @@
+// Narrowing (R1 and R2): a partial assignment by value, and what the rows force in it.
+//
+// blank(n), put(n, p, v, b)   the part that sets nothing; p with v at b
+// pass(.., p)                 sets each variable without whose help a row cannot be met; or finds that p has no completion that meets the rows
+//
+// The tables are those of the crate charging. Read specs/Parts.antt; proofs/PartLaws.antt has the argument.
 ghost use mathlib.Core.Path.{_≡_};
 ghost use mathlib.Core.Bool.{true, false};
-ghost use Prim.Native.Nat.{_+_, _-_, _<_, _≤_};
+ghost use Prim.Native.Nat.{_+_, _-_, _<_, _≤_, ℕ};
 ghost use lib.ListN.{length, getD};
 ghost use Rattle.charging.specs.Rows.{left, Terms, Table, Meets};
 ghost use Rattle.narrowing.specs.Parts.{of, Good, Put, Cuts, Maybe};
@@ -16,6 +22,18 @@ pub struct Part {
 pub struct Cut {
     pub ok: bool,
     pub part: Part,
+}
+
+// The part that sets no variable.
+pub fn blank(n: usize) -> Part
+    requires { ⌜ n ≤ 64 ⌝ }
+    ensures { λ r. ⌜ Good n r × ((v : ℕ) → of r v ≡ 2) ⌝ }
+{
+    Part {
+        set: 0,
+        one: 0,
+        left: n as u64,
+    }
 }
 
 // p with v at b.

@@ -1,1 +1,2 @@
+-- For seeking's own functions.
 pub mod SeekLaws

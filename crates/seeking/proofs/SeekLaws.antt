@@ -1,4 +1,5 @@
--- Laws of the search for the least. Assumes nothing.
+-- What is fit comes before the incumbent or is covered by it. So only what is wanted (fit and before the incumbent) counts below a node: where
+-- nothing is, the incumbent stays; else it is below one of the children, and what the first child leaves covers all that it had covered.
 use mathlib.Core.Path.{_≡_, refl, _∙_}
 use mathlib.Core.Logic.{_⊎_, inl, inr, ⊎-elim}
 use mathlib.Core.Bool.{Bool, true, false}
@@ -14,8 +15,10 @@ use Rattle.charging.proofs.SumLaws.{eq-or}
 use Rattle.narrowing.specs.declared.Part.{Part}
 use Rattle.narrowing.specs.Parts.{of, Put, Leads, Cuts}
 use Rattle.narrowing.proofs.PartLaws.{cuts-off, cuts-then}
-use Rattle.forcing.specs.Goals.{Wanted, Tells}
-use Rattle.forcing.proofs.FindLaws.{cuts-less, cost-up, child-keep}
+use Rattle.forcing.specs.Goals.{Wanted}
+use Rattle.finding.specs.Finding.{Tells}
+use Rattle.forcing.proofs.ForceLaws.{cuts-less, cost-up}
+use Rattle.finding.proofs.FindLaws.{other, child-keep}
 use Rattle.capping.specs.Caps.{vec, less, at, Fresh, Capped}
 use Rattle.seeking.specs.Least.{Want, Fit, Covers, Holds, Best, Opened, Sizes}
 use Rattle.capping.proofs.OrderLaws.{no, on, lex-trans, lex-up, lex-or, lex-same, lex-mono}
@@ -64,19 +67,19 @@ module _ (n : ℕ) (start tv off w need d dear : List ℕ) (k : ℕ) (l : List �
       record { holds = h; least = λ x c u. ⊎-elim (λ y. absurd (f x c y)) (λ y. y) (want-or have top x u); kept = λ g c. c }
 
   -- below a node: what is wanted is below its children
-  pub best-two : (p q : Part) (v : ℕ) (q₀ q₁ : Part) (h : Bool) (t : List ℕ) (h₀ : Bool) (r₀ : Part) (t₀ : List ℕ) (h₁ : Bool) (r₁ : Part) (t₁ : List ℕ)
-      → Leads n (Want n start tv off w need d dear k l m h t) p q → v < n → Put n q v 0 q₀ → Put n q v 1 q₁
+  pub best-two : (p q : Part) (v b : ℕ) (q₀ q₁ : Part) (h : Bool) (t : List ℕ) (h₀ : Bool) (r₀ : Part) (t₀ : List ℕ) (h₁ : Bool) (r₁ : Part) (t₁ : List ℕ)
+      → Leads n (Want n start tv off w need d dear k l m h t) p q → v < n → b < 2 → Put n q v b q₀ → Put n q v (1 - b) q₁
       → Best n F k d dear q₀ h t h₀ r₀ t₀ → Best n F k d dear q₁ h₀ t₀ h₁ r₁ t₁ → Best n F k d dear p h t h₁ r₁ t₁
-  best-two p q v q₀ q₁ h t h₀ r₀ t₀ h₁ r₁ t₁ a i p₀ p₁ b₀ b₁ =
+  best-two p q v b q₀ q₁ h t h₀ r₀ t₀ h₁ r₁ t₁ a i two p₀ p₁ b₀ b₁ =
       record {
         holds = b₁ .holds;
         least = λ x c u.
             ⊎-elim
             (λ y. let z = a .narrows .keep x c y in
             ⊎-elim
-            (λ e. b₁ .kept (vec n d dear x) (b₀ .least x (child-keep n F q v 0 q₀ p₀ i x z e) u))
-            (λ e. b₁ .least x (child-keep n F q v 1 q₁ p₁ i x z (omega (arith, z .bits v i, e))) u)
-            (eq-or (x v) 0))
+            (λ e. b₁ .kept (vec n d dear x) (b₀ .least x (child-keep n F q v b q₀ p₀ i x z e) u))
+            (λ e. b₁ .least x (child-keep n F q v (1 - b) q₁ p₁ i x z (other (x v) b (z .bits v i) two e)) u)
+            (eq-or (x v) b))
             (λ y. b₁ .kept (vec n d dear x) (b₀ .kept (vec n d dear x) y))
             (want-or h t x u);
         kept = λ g c. b₁ .kept g (b₀ .kept g c);
@@ -92,11 +95,11 @@ module _ (n : ℕ) (start tv off w need d dear : List ℕ) (k : ℕ) (l : List �
       }
 
   -- a leaf that comes before the incumbent takes its place
-  pub best-taken : (q : Part) (h : Bool) (t t₁ : List ℕ) → ((i : ℕ) → i < k → Costs n d dear (i * n)) → Completes n (of q) (of q) → F (of q)
+  pub best-taken : (q : Part) (h : Bool) (t t₁ : List ℕ) → ((i : ℕ) → i < k → Costs n d dear (i * n)) → q .one < 2 ^ n → Completes n (of q) (of q) → F (of q)
       → (h ≡ true → less k 0 (vec n d dear (of q)) (at t)) → ((i : ℕ) → i < k → getD t₁ i 0 ≡ vec n d dear (of q) i) → Best n F k d dear q h t true q t₁
-  best-taken q h t t₁ cs c u b e =
+  best-taken q h t t₁ cs fi c u b e =
       record {
-        holds = record { fit = λ _. u; bits = λ _. c .bits; value = λ _. e };
+        holds = record { fit = λ _. u; bits = λ _. c .bits; fits = λ _. fi; value = λ _. e };
         least = λ x z y. (refl, lex-up k 0 k (vec n d dear x) (at t₁) (omega arith) (λ i j. omega (arith, e i j, cost-up n (of q) d dear (i * n) (cs i j) x z)));
         kept = λ g y. (refl, λ z. y .1 (lex-trans k 0 g (vec n d dear (of q)) (at t) (lex-same k 0 k g g (at t₁) (vec n d dear (of q)) (omega arith) (λ i j. refl) e z) (b (y .0))));
       }
@@ -111,10 +114,10 @@ module _ (n : ℕ) (start tv off w need d dear : List ℕ) (k : ℕ) (l : List �
     pub leaf-later : (have : Bool) (r : Part) (top : List ℕ) → Holds n F k d dear have r top → have ≡ true → (less k 0 (at lb) (at top) → ⊥) → Best n F k d dear q have top have r top
     leaf-later have r top h e f = best-stays q have r top h (λ x c u. f (lex-mono k 0 k (at lb) (vec n d dear x) (at top) (omega arith) (under x c) (u .before′ e)))
 
-    pub leaf-taken : (have : Bool) (top top′ : List ℕ) → Completes n (of q) (of q) → Meets start tv off w need (of q) → Fresh k l m (at lb)
+    pub leaf-taken : (have : Bool) (top top′ : List ℕ) → q .one < 2 ^ n → Completes n (of q) (of q) → Meets start tv off w need (of q) → Fresh k l m (at lb)
         → (have ≡ true → less k 0 (at lb) (at top)) → ((i : ℕ) → i < k → getD top′ i 0 ≡ getD lb i 0) → Best n F k d dear q have top true q top′
-    leaf-taken have top top′ c mt f b e =
-        best-taken q have top top′ cs c (record { meets = mt; fresh = λ i z a. f i z (λ j y. omega (arith, a j y, o .sure j y)) })
+    leaf-taken have top top′ fi c mt f b e =
+        best-taken q have top top′ cs fi c (record { meets = mt; fresh = λ i z a. f i z (λ j y. omega (arith, a j y, o .sure j y)) })
         (λ h. lex-same k 0 k (at lb) (vec n d dear (of q)) (at top) (at top) (omega arith) (o .sure) (λ i j. refl) (b h)) (λ i j. e i j ∙ o .sure i j)
 
   pub leaf-unmet : (q : Part) (have : Bool) (r : Part) (top : List ℕ) → Holds n F k d dear have r top → Tells n (Meets start tv off w need) q false → Best n F k d dear q have top have r top

@@ -1,1 +1,2 @@
+-- Read Least, after the crate capping's Caps.
 pub mod Least

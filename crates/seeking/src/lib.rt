@@ -1,26 +1,26 @@
+// Seeking the least vector, first objective first, among those of assignments that meet the rows and are weakly dominated by no listed point.
+//
+// search(.., p, inc)    the least of the incumbent and of what is fit below p, by a recursion over the unset variables
+// reduce(.., p)         R1 to R6 to a fixpoint: sets what is forced, or finds that nothing is wanted below p
+//
+// Each pruning rule enters by the contract of `reduce` alone. Read specs/Least.antt; proofs/SeekLaws.antt has the argument.
+mod leaves;
+mod vectors;
+
+pub use leaves::leaf;
 use narrowing::Cut;
 use narrowing::Part;
-ghost use mathlib.Core.Path.{_≡_};
-ghost use mathlib.Core.Bool.{true, false};
-ghost use Prim.Native.Nat.{ℕ, _+_, _-_, _*_, _<_, _≤_};
-ghost use lib.ListN.{length, getD};
-ghost use Rattle.charging.specs.Rows.{Table, Completes, Costs};
-ghost use Rattle.narrowing.specs.Parts.{of, Good, Cuts};
-ghost use Rattle.capping.specs.Caps.{less, at, Free, Fresh};
-ghost use Rattle.seeking.specs.Least.{Want, Fit, Holds, Best, Opened, Sizes};
-
-// The vector that is sure, and caps above every vector.
-pub fn widen(n: usize, d: &[u64], dear: &[u8], k: usize, p: Part, lb: &mut [u64], cap: &mut [u64])
-    requires { ⌜ ((i : ℕ) → i < k → Costs n (now d) (now dear) (i * n)) × (n ≤ 64) × (k ≤ length (now lb)) × (k ≤ length (now cap)) ⌝ }
-    ensures { λ _. ⌜ Opened n (now (d .entry)) (now (dear .entry)) k p (now (lb .exit)) (now (cap .exit)) ⌝ }
-{
-    let mut i = 0;
-    while i < k {
-        lb[i] = charging::sure(n, d, dear, i * n, p.set, p.one);
-        cap[i] = 1099511627776;
-        i += 1;
-    }
-}
+pub use vectors::copy;
+pub use vectors::earlier;
+pub use vectors::earlier_if;
+pub use vectors::free;
+pub use vectors::fresh;
+pub use vectors::widen;
+ghost use mathlib.Core.Bool.{false};
+ghost use Prim.Native.Nat.{_-_, _*_};
+ghost use Rattle.charging.specs.Rows.{Table};
+ghost use Rattle.narrowing.specs.Parts.{Good, Cuts};
+ghost use Rattle.seeking.specs.Least.{Want, Fit, Holds, Best, Sizes};
 
 // Rows, caps and charges, until nothing more is forced.
 pub fn reduce(
@@ -89,116 +89,6 @@ pub fn reduce(
     }
 }
 
-// Whether the point at a leaves f alone.
-pub fn free(k: usize, f: &[u64], l: &[u64], a: usize) -> bool
-    requires { ⌜ (k ≤ length (now f)) × (a + k ≤ length (now l)) ⌝ }
-    ensures { λ r. ⌜ (r ≡ true → Free k (now (l .entry)) a (at (now (f .entry)))) × (r ≡ false → (i : ℕ) → i < k → getD (now (l .entry)) (a + i) 0 ≤ getD (now (f .entry)) i 0) ⌝ }
-{
-    let mut i = 0;
-    while i < k {
-        if f[i] < l[a + i] {
-            return true;
-        }
-        i += 1;
-    }
-    false
-}
-
-// Whether no listed point weakly dominates f.
-pub fn fresh(k: usize, f: &[u64], l: &[u64], m: usize) -> bool
-    requires { ⌜ (k ≤ length (now f)) × (m * k ≤ length (now l)) ⌝ }
-    ensures { λ r. ⌜ (r ≡ true → Fresh k (now (l .entry)) m (at (now (f .entry)))) × (r ≡ false → Fresh k (now (l .entry)) m (at (now (f .entry))) → ⊥) ⌝ }
-{
-    let mut q = 0;
-    while q < m {
-        let ok = free(k, f, l, q * k);
-        if !ok {
-            return false;
-        }
-        q += 1;
-    }
-    true
-}
-
-// Whether f comes before g.
-pub fn earlier(k: usize, f: &[u64], g: &[u64]) -> bool
-    requires { ⌜ (k ≤ length (now f)) × (k ≤ length (now g)) ⌝ }
-    ensures { λ r. ⌜ (r ≡ true → less k 0 (at (now (f .entry))) (at (now (g .entry)))) × (r ≡ false → less k 0 (at (now (f .entry))) (at (now (g .entry))) → ⊥) ⌝ }
-{
-    let mut j = 0;
-    while j < k {
-        if f[j] < g[j] {
-            return true;
-        }
-        if g[j] < f[j] {
-            return false;
-        }
-        j += 1;
-    }
-    false
-}
-
-// Whether f comes before the incumbent's g, if there is one.
-pub fn earlier_if(have: bool, k: usize, f: &[u64], g: &[u64]) -> bool
-    requires { ⌜ (k ≤ length (now f)) × (k ≤ length (now g)) ⌝ }
-    ensures { λ r. ⌜ (r ≡ true → have ≡ true → less k 0 (at (now (f .entry))) (at (now (g .entry)))) × (r ≡ false → (have ≡ true) × (less k 0 (at (now (f .entry))) (at (now (g .entry))) → ⊥)) ⌝ }
-{
-    if have {
-        return earlier(k, f, g);
-    }
-    true
-}
-
-// Copies the first k numbers.
-pub fn copy(k: usize, f: &[u64], g: &mut [u64])
-    requires { ⌜ (k ≤ length (now f)) × (k ≤ length (now g)) ⌝ }
-    ensures { λ _. ⌜ ((i : ℕ) → i < k → getD (now (g .exit)) i 0 ≡ getD (now (f .entry)) i 0) ⌝ }
-{
-    let mut i = 0;
-    while i < k {
-        g[i] = f[i];
-        i += 1;
-    }
-}
-
-// A complete q takes the incumbent's place, if it is fit and comes before it.
-pub fn leaf(
-    n: usize,
-    start: &[usize],
-    tv: &[usize],
-    off: &[u8],
-    w: &[u64],
-    need: &[u64],
-    d: &[u64],
-    dear: &[u8],
-    k: usize,
-    l: &[u64],
-    m: usize,
-    lb: &mut [u64],
-    cap: &mut [u64],
-    top: &mut [u64],
-    q: Part,
-    inc: Cut,
-) -> Cut
-    requires table { ⌜ Table n (now start) (now tv) (now off) (now w) (now need) × ((i : ℕ) → i < k → Costs n (now d) (now dear) (i * n)) × (m * k ≤ length (now l)) × (k ≤ length (now top)) × (k ≤ length (now lb)) × (k ≤ length (now cap)) × Completes n (of q) (of q) ⌝ }
-    requires holds { ⌜ Holds n (Fit n (now start) (now tv) (now off) (now w) (now need) (now d) (now dear) k (now l) m) k (now d) (now dear) (inc .ok) (inc .part) (now top) ⌝ }
-    ensures { λ r. ⌜ Best n (Fit n (now (start .entry)) (now (tv .entry)) (now (off .entry)) (now (w .entry)) (now (need .entry)) (now (d .entry)) (now (dear .entry)) k (now (l .entry)) m) k (now (d .entry)) (now (dear .entry)) q (inc .ok) (now (top .entry)) (r .ok) (r .part) (now (top .exit)) ⌝ }
-{
-    if !forcing::met(n, start, tv, off, w, need, q) {
-        return inc;
-    }
-    widen(n, d, dear, k, q, lb, cap);
-    if !fresh(k, &*lb, l, m) {
-        return inc;
-    }
-    let have = inc.ok;
-    if !earlier_if(have, k, &*lb, &*top) {
-        return inc;
-    }
-    copy(k, &*lb, top);
-    Cut { ok: true, part: q }
-}
-
 // The least of the incumbent and of what is fit below p. `top` is the incumbent's vector.
 pub fn search(
     n: usize,
@@ -249,7 +139,7 @@ pub fn search(
         return inc;
     }
     let q = c.part;
-    let v = forcing::branch(n, order, q);
+    let v = finding::branch(n, order, q);
     if v == n {
         return leaf(
             n,
@@ -270,6 +160,7 @@ pub fn search(
             inc,
         );
     }
+    let b = finding::cheaper(n, d, dear, k, v);
     let first = search(
         n,
         start,
@@ -287,7 +178,7 @@ pub fn search(
         lb,
         cap,
         top,
-        narrowing::put(n, q, v, 0),
+        narrowing::put(n, q, v, b),
         inc,
     );
     search(
@@ -307,7 +198,7 @@ pub fn search(
         lb,
         cap,
         top,
-        narrowing::put(n, q, v, 1),
+        narrowing::put(n, q, v, 1 - b),
         first,
     )
 }

@@ -1,3 +1,4 @@
+-- Charged bounds, then the incumbent, then the points: each only lowers caps.
 use mathlib.Core.Path.{_≡_}
 use mathlib.Core.Bool.{true, false}
 use Prim.Native.Nat.{ℕ, _-_}

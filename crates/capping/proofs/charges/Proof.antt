@@ -1,3 +1,5 @@
+-- A charged bound for each objective, and a cap above every cost.
+-- Invariant: Low for the first i objectives. Measure: k - i.
 use borrow.Author.Needs.{needs}
 use native.Mathlib.Omega.{arith}
 use mathlib.Core.Path.{_≡_, refl}

@@ -1,3 +1,5 @@
+-- A point that the bound leaves one place to be beaten at must be beaten there; with no such place it dominates everything here.
+-- Invariant: Single, the one place so far. Measure: k - i.
 use borrow.Author.Needs.{needs}
 use native.Mathlib.Omega.{arith}
 use mathlib.Core.Path.{refl}

@@ -1,3 +1,5 @@
+-- One point after the other.
+-- Invariant: the caps are tight for the first q points. Measure: m - q.
 use borrow.Author.Needs.{needs}
 use native.Mathlib.Omega.{arith}
 use mathlib.Core.Path.{_≡_, refl}

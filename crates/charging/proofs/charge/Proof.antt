@@ -1,3 +1,5 @@
+-- The start is the cost that is sure with all of the rest owed; each row adds what it takes off the rest.
+-- Invariant: b and res are a bound so far, and b is small. Measure: the rows left.
 use borrow.Author.Needs.{needs}
 use native.Mathlib.Omega.{arith}
 use mathlib.Core.Path.{_≡_}

@@ -1,3 +1,4 @@
+-- Where what needs no charge is too little, every completion that meets the row has a charged variable on its dear side (step-one); else nothing is charged.
 use native.Mathlib.Omega.{arith}
 use Prim.Native.Nat.{_-_}
 use lib.ListN.{set}

@@ -1,3 +1,5 @@
+-- Each step fills one more place.
+-- Invariant: Owed for the first v variables. Measure: n - v.
 use borrow.Author.Needs.{needs}
 use native.Mathlib.Omega.{arith}
 use mathlib.Core.Path.{_≡_, refl, sym, _∙_}

@@ -1,3 +1,5 @@
+-- The sum over the first v variables is the span of length v.
+-- Invariant: sum is that span. Measure: n - v.
 use borrow.Author.Needs.{needs}
 use native.Mathlib.Omega.{arith}
 use mathlib.Core.Path.{_≡_, sym, ap, _∙_}

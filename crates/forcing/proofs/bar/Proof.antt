@@ -1,3 +1,4 @@
+-- Nothing, or put where the dear side is beyond the limit and the variable unset.
 use mathlib.Core.Path.{refl, sym, _∙_}
 use mathlib.Core.Logic.{inl, inr}
 use Prim.Native.Nat.{_-_}

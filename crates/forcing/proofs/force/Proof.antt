@@ -1,3 +1,5 @@
+-- The charged bound with the residual of a variable on its dear side bounds the cost; beyond the cap, the variable is on its cheap side.
+-- Invariant: nothing under the cap is lost from p to q. Measure: n - v.
 use borrow.Author.Needs.{needs}
 use native.Mathlib.Omega.{arith}
 use mathlib.Core.Path.{_≡_}
@@ -7,7 +9,7 @@ use Rattle.charging.specs.Rows.{seen, Charged}
 use Rattle.narrowing.specs.Parts.{Leads}
 use Rattle.narrowing.proofs.PartLaws.{leads-refl, cuts-on, cuts-off}
 use Rattle.forcing.specs.Goals.{Under}
-use Rattle.forcing.proofs.FindLaws.{force-more, over}
+use Rattle.forcing.proofs.ForceLaws.{force-more, over}
 use Rattle.forcing.proofs.force.Statement.{statement}
 use Rattle.forcing.proofs.force.Tie as tie
 

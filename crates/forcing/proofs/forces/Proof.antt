@@ -1,3 +1,5 @@
+-- Each objective loses nothing that is wanted.
+-- Invariant: nothing is lost from p to q. Measure: k - i.
 use borrow.Author.Needs.{needs}
 use native.Mathlib.Omega.{arith}
 use mathlib.Core.Path.{_≡_, refl}
@@ -6,7 +8,7 @@ use lib.ListN.{length}
 use Rattle.narrowing.specs.Parts.{Leads}
 use Rattle.narrowing.proofs.PartLaws.{leads-refl, cuts-on}
 use Rattle.forcing.specs.Goals.{Wanted}
-use Rattle.forcing.proofs.FindLaws.{cuts-cap}
+use Rattle.forcing.proofs.ForceLaws.{cuts-cap}
 use Rattle.forcing.proofs.forces.Statement.{statement}
 use Rattle.forcing.proofs.forces.Tie as tie
 

@@ -1,3 +1,5 @@
+-- Rows and caps lose nothing that is wanted, however often they are asked.
+-- Invariant: nothing is lost from p to q. Measure: the unset variables, which fall until nothing more is set.
 use borrow.Author.Needs.{needs}
 use native.Mathlib.Omega.{arith}
 use mathlib.Core.Path.{_≡_, refl}
@@ -7,7 +9,7 @@ use Rattle.charging.specs.Rows.{left}
 use Rattle.narrowing.specs.Parts.{Leads}
 use Rattle.narrowing.proofs.PartLaws.{leads-refl, cuts-then}
 use Rattle.forcing.specs.Goals.{Wanted}
-use Rattle.forcing.proofs.FindLaws.{cuts-rows}
+use Rattle.forcing.proofs.ForceLaws.{cuts-rows}
 use Rattle.forcing.proofs.reduce.Statement.{statement}
 use Rattle.forcing.proofs.reduce.Tie as tie
 

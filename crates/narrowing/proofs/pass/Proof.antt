@@ -1,3 +1,5 @@
+-- Each row loses nothing that meets the rows.
+-- Invariant: nothing is lost from p to q. Measure: the rows left.
 use borrow.Author.Needs.{needs}
 use native.Mathlib.Omega.{arith}
 use Prim.Native.Nat.{_≤_, _-_}

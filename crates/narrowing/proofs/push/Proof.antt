@@ -1,3 +1,4 @@
+-- Nothing, or put where the term is needed and its variable unset.
 use native.Mathlib.Omega.{arith}
 use mathlib.Core.Path.{refl, sym, _∙_}
 use mathlib.Core.Logic.{inl, inr}

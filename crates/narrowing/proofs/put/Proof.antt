@@ -1,9 +1,10 @@
+-- v is unset in both words, so adding 2 ^ v sets its bit and no other.
 use native.Mathlib.Omega.{arith}
 use mathlib.Core.Path.{_≡_, refl, ap}
 use Prim.Native.Nat.{ℕ, _<_, _+_, _-_}
 use lib.ListN.{set}
 use Rattle.charging.specs.Rows.{left}
-use Rattle.narrowing.proofs.PartLaws.{shifted, set-room, put-zero, put-one, put-left}
+use Rattle.narrowing.proofs.PutLaws.{shifted, set-room, put-zero, put-one, put-left}
 use borrow.Author.Needs.{needs}
 use Rattle.narrowing.proofs.put.Statement.{statement}
 use Rattle.narrowing.proofs.put.Tie as tie

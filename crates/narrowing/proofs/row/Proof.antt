@@ -1,3 +1,5 @@
+-- Where the reach is below the need there is no completion; else each term that weighs more than the slack is needed.
+-- Invariant: nothing that meets the rows is lost from p to q. Measure: many - j.
 use borrow.Author.Needs.{needs}
 use native.Mathlib.Omega.{arith}
 use Prim.Native.Nat.{_≤_, _-_}

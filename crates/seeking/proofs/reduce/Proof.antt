@@ -1,3 +1,5 @@
+-- Rows, caps and charges lose nothing that is wanted, however often they are asked.
+-- Invariant: nothing is lost from p to q. Measure: the unset variables.
 use native.Mathlib.Omega.{arith}
 use mathlib.Core.Path.{_≡_, refl}
 use Prim.Native.Nat.{_-_}

@@ -1,0 +1,2 @@
+-- For the lister above: NextLaws.
+pub mod NextLaws

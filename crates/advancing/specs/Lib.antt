@@ -1,0 +1,2 @@
+-- What the next point is. Read Next.
+pub mod Next

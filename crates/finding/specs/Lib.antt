@@ -1,0 +1,2 @@
+-- Read Finding.
+pub mod Finding

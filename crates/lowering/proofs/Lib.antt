@@ -1,0 +1,3 @@
+-- NumberLaws: a number by its bits from v up. LowerLaws: one variable more is settled.
+pub mod NumberLaws
+pub mod LowerLaws

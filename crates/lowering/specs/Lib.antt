@@ -1,0 +1,2 @@
+-- What a smallest witness is. Read Smallest.
+pub mod Smallest
