@@ -1,15 +1,17 @@
 -- Lists in lent runs: vectors that rise one by one rise over all, and then to look for dominance among later points is enough.
-use mathlib.Core.Path.{_≡_, refl, sym, ap, subst, _∙_}
+use mathlib.Core.Path.{_≡_, refl, sym, ap, ap₂, subst, _∙_}
 use mathlib.Core.Logic.{_⊎_, inl, inr, ⊎-elim}
 use mathlib.Core.Bool.{true, false}
-use mathlib.Core.List.{List}
-use Prim.Native.Nat.{ℕ, zero, suc, _+_, _-_, _*_, _≤_, _<_}
+use mathlib.Core.List.{List, [], _∷_, _++_}
+use Prim.Native.Nat.{ℕ, zero, suc, _+_, _-_, _*_, _^_, _≤_, _<_}
 use native.Mathlib.Decide.{decLt}
 use native.Mathlib.Nat.{eq-or-lt-of-le, le-of-suc-le-suc}
 use native.Mathlib.Omega.{arith}
 use lib.IntN.{ℤ, pos, negsuc, natAbs}
+use lib.ListN.{length, getD, length-append, List·getD-append}
 use Rattle.points.specs.Vectors.{lex, Lex, leAll, LeAll, Dominates}
-use Rattle.points.specs.Lists.{valuesAt, RisingAt, NoneAfter, Apart, NoneDominates}
+use Rattle.points.specs.Limits.{maxValue}
+use Rattle.points.specs.Lists.{valuesAt, modelAt, RisingAt, NoneAfter, Apart, NoneDominates, Proper}
 use Rattle.points.proofs.OrderLaws.{clash, lex-irrefl, lex-trans, leAll-lex}
 
 -- ---- numbers
@@ -75,3 +77,40 @@ module _ (vs : List ℤ) where
           at-most = t;
           differs = λ e. lex-irrefl (valuesAt vs k) (subst (λ (v : List ℤ). Lex v (valuesAt vs k)) e (rising-before r a k l b));
         })
+
+-- ---- Proper looks at the first points only
+module _ {points : ℕ} (vs vs′ : List ℤ) (same : (i : ℕ) → i < points * 4 → getD vs′ i (pos 0) ≡ getD vs i (pos 0)) where
+  pub values-same : (k : ℕ) → k < points → valuesAt vs′ k ≡ valuesAt vs k
+  values-same k h =
+      ap₂ _∷_ (same (k * 4) (omega arith))
+      (ap₂ _∷_ (same (k * 4 + 1) (omega arith)) (ap₂ _∷_ (same (k * 4 + 2) (omega arith)) (ap (λ (z : ℤ). z ∷ []) (same (k * 4 + 3) (omega arith)))))
+
+  pub proper-same : {objectives n : ℕ} (ms ms′ : List ℕ) → ((k : ℕ) → k < points → modelAt ms′ k ≡ modelAt ms k) → points * 4 ≤ length vs′ → points ≤ length ms′
+      → Proper objectives n points vs ms → Proper objectives n points vs′ ms′
+  proper-same {n = n} ms ms′ models room room′ p = record {
+    some-objective = p .some-objective;
+    few-objectives = p .few-objectives;
+    few-variables = p .few-variables;
+    few-points = p .few-points;
+    values-room = room;
+    models-room = room′;
+    in-range = λ i h. subst (λ (z : ℤ). natAbs z ≤ maxValue) (sym (same i h)) (p .in-range i h);
+    unused = λ i h l. same i h ∙ p .unused i h l;
+    bits = λ k h. subst (λ (m : ℕ). m < 2 ^ n) (sym (models k h)) (p .bits k h);
+    rising = λ k h. ap₂ lex (values-same k (omega arith)) (values-same (k + 1) h) ∙ p .rising k h;
+    apart = λ i j h l d.
+        p .apart i j h l
+        (record {
+          at-most = sym (ap₂ leAll (values-same i h) (values-same j l)) ∙ d .at-most;
+          differs = λ e. d .differs (values-same i h ∙ (e ∙ sym (values-same j l)));
+        });
+  }
+
+-- So what stands after them does not matter.
+pub proper-append : {objectives n points : ℕ} (vs ws : List ℤ) (ms os : List ℕ) → length vs ≡ points * 4 → length ms ≡ points → Proper objectives n points vs ms → Proper objectives n points (vs ++ ws) (ms ++ os)
+proper-append vs ws ms os e f =
+    proper-same vs (vs ++ ws) (λ i h. List·getD-append vs ws (pos 0) i (omega arith)) ms (ms ++ os) (λ k h. List·getD-append ms os 0 k (omega arith)) (omega (arith, length-append vs ws)) (omega (arith, length-append ms os))
+
+pub proper-first : {objectives n points : ℕ} (vs ws : List ℤ) (ms os : List ℕ) → length vs ≡ points * 4 → length ms ≡ points → Proper objectives n points (vs ++ ws) (ms ++ os) → Proper objectives n points vs ms
+proper-first vs ws ms os e f =
+    proper-same (vs ++ ws) vs (λ i h. sym (List·getD-append vs ws (pos 0) i (omega arith))) (ms ++ os) ms (λ k h. sym (List·getD-append ms os 0 k (omega arith))) (omega arith) (omega arith)
