@@ -4,3 +4,5 @@ pub mod PutLaws
 pub mod BlockLaws
 pub mod WriteLaws
 pub mod ReadLaws
+pub mod UniqueLaws
+pub mod FileLaws

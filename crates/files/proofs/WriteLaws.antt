@@ -19,7 +19,7 @@ use Rattle.files.specs.Answers.{bytesFor, WrittenAll}
 use Rattle.files.proofs.BlockLaws.{block-length}
 
 -- ---- blocks of two files that agree
-block-byte : (f : List ℕ) (b i : ℕ) → i < 512 → byteAt (blockAt f b) i ≡ byteAt f (b * 512 + i)
+pub block-byte : (f : List ℕ) (b i : ℕ) → i < 512 → byteAt (blockAt f b) i ≡ byteAt f (b * 512 + i)
 block-byte f b i h = getD-take 512 (drop (b * 512) f) i 0 h ∙ getD-drop (b * 512) f i 0
 
 pub block-same : (f g : List ℕ) (b : ℕ) → (b + 1) * 512 ≤ length f → (b + 1) * 512 ≤ length g → ((i : ℕ) → i < 512 → byteAt g (b * 512 + i) ≡ byteAt f (b * 512 + i)) → blockAt g b ≡ blockAt f b
