@@ -6,3 +6,5 @@ pub mod WriteLaws
 pub mod ReadLaws
 pub mod UniqueLaws
 pub mod FileLaws
+pub mod AnswerLaws
+pub mod RoundLaws
