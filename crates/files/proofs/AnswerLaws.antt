@@ -9,7 +9,8 @@ use lib.ListN.{length, getD, drop}
 use lib.Seq.{ext-getD, getD-drop}
 use Rattle.blocks.specs.Fields.{byteAt}
 use Rattle.blocks.proofs.ByteLaws.{Bytes}
-use Rattle.files.specs.Answers.{bytesFor, WrittenAs, WrittenAll, ReadAs, Answer, answerOf, LowestNot, LengthFits, AllChecked, AllLaid}
+use Rattle.files.specs.Written.{bytesFor, WrittenAs, WrittenAll}
+use Rattle.files.specs.Taken.{ReadAs, Answer, answerOf, LowestNot, LengthFits, AllChecked, AllLaid}
 use Rattle.files.specs.declared.write.FileWritten.{FileWritten}
 use Rattle.files.specs.declared.write.FileWritten.the-variants.{Done as Wrote, NotProper as Improper, ShortOutput as NoRoom}
 use Rattle.files.specs.declared.read.FileHead.{FileHead}

@@ -11,7 +11,7 @@ use Rattle.blocks.specs.Fields.{byteAt, u64At, signedOf, bitsOf}
 use Rattle.blocks.specs.Check.{CheckFits}
 use Rattle.blocks.proofs.ByteLaws.{Bytes, u64-small, bits-signed}
 use Rattle.files.specs.Layout.{blockAt, blocksFor, countIn, placeOf, pointsOf, objectivesOf, variablesOf, valueIn, modelIn, HeadFits, PointsFit, BlockFits, BlockChecked, FileOf}
-use Rattle.files.specs.Answers.{bytesFor}
+use Rattle.files.specs.Written.{bytesFor}
 use Rattle.files.proofs.BlockLaws.{block-length}
 use Rattle.files.proofs.WriteLaws.{block-byte, block-same}
 use Rattle.files.proofs.UniqueLaws.{head-unique, points-unique}

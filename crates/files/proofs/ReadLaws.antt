@@ -11,7 +11,7 @@ use Rattle.instance.proofs.ListLaws.{tabulate-length}
 use Rattle.points.specs.Lists.{Proper}
 use Rattle.points.proofs.ListLaws.{proper-append, proper-first}
 use Rattle.files.specs.Layout.{blocksFor, valueIn, modelIn, valuesIn, modelsIn}
-use Rattle.files.specs.Answers.{Sound, blocksIn, points}
+use Rattle.files.specs.Taken.{Sound, blocksIn, points}
 
 -- Local runs that begin with the list decide whether it is proper.
 pub decides-list : {r : Bool} (f : List ℕ) (o n points : ℕ) {vs : List ℤ} {ms : List ℕ} (ws : List ℤ) (os : List ℕ) → vs ≡ valuesIn f points ++ ws → ms ≡ modelsIn f points ++ os

@@ -12,7 +12,8 @@ use Rattle.points.proofs.ListLaws.{proper-same, proper-append}
 use Rattle.blocks.specs.Fields.{byteAt}
 use Rattle.blocks.proofs.ByteLaws.{Bytes}
 use Rattle.files.specs.Layout.{blockAt, blocksFor, objectivesOf, variablesOf, pointsOf, valueIn, modelIn, valuesIn, modelsIn, BlockFits, FileOf}
-use Rattle.files.specs.Answers.{bytesFor, WrittenAs, WrittenAll, ReadAs, ReadAll, Answer, answerOf, Sound, LengthFits, ProperList, Room, blocksIn, points}
+use Rattle.files.specs.Written.{bytesFor, WrittenAs, WrittenAll}
+use Rattle.files.specs.Taken.{ReadAs, ReadAll, Answer, answerOf, Sound, LengthFits, ProperList, Room, blocksIn, points}
 use Rattle.files.specs.declared.write.FileWritten.{FileWritten}
 use Rattle.files.specs.declared.write.FileWritten.the-variants.{Done as Wrote, NotProper as Improper, ShortOutput as NoRoom}
 use Rattle.files.specs.declared.read.FileHead.{FileHead}

@@ -15,7 +15,7 @@ use Rattle.blocks.proofs.ByteLaws.{signed-bits}
 use Rattle.files.specs.Layout.{blockAt, blocksFor, countIn, placeOf, pointsOf, valueIn, modelIn, HeadFits, PointsFit, BlockFits, BlockChecked, FileOf}
 use Rattle.files.specs.Structs.{HeadOf, PointIn, PointsOf}
 use Rattle.files.specs.Put.{BlocksPut}
-use Rattle.files.specs.Answers.{bytesFor, WrittenAll}
+use Rattle.files.specs.Written.{bytesFor, WrittenAll}
 use Rattle.files.proofs.BlockLaws.{block-length}
 
 -- ---- blocks of two files that agree

@@ -4,7 +4,8 @@
 // read_file(file, values, models)                           reads a file, or refuses 15, 16, 17, 14, then 13
 // File::                                                    the sizes of a file; Sizes::all ties them to specs/Limits.antt
 //
-// The caller lends all memory. Read specs/Layout.antt (a file's meaning, block by block) and specs/Answers.antt (both contracts).
+// The caller lends all memory. Read specs/Layout.antt (a file's meaning, block by block), then
+// specs/Written.antt and specs/Taken.antt (the contracts).
 // Laws: proofs/AnswerLaws.antt (answers are determined) and proofs/RoundLaws.antt (reading what was written, writing what was read).
 mod sizes; // sizes.rt: the sizes of a file and where things stand
 mod put; // put.rt: a list as blocks

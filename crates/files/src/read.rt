@@ -17,7 +17,7 @@ ghost use Rattle.points.specs.Limits.{maxPoints};
 ghost use Rattle.points.specs.Lists.{Proper};
 ghost use Rattle.files.specs.Layout.{blockAt, blocksFor, objectivesOf, variablesOf, pointsOf, valuesIn, modelsIn};
 ghost use Rattle.files.specs.Structs.{headOf};
-ghost use Rattle.files.specs.Answers.{ReadAs};
+ghost use Rattle.files.specs.Taken.{ReadAs};
 
 // The three numbers of a head.
 pub struct FileHead {

@@ -10,7 +10,7 @@ ghost use lib.ListN.{length};
 ghost use Rattle.points.specs.Limits.{maxPoints};
 ghost use Rattle.files.specs.Layout.{blocksFor};
 ghost use Rattle.files.specs.Put.{BlocksPut};
-ghost use Rattle.files.specs.Answers.{WrittenAs};
+ghost use Rattle.files.specs.Written.{WrittenAs};
 
 // The answer of writing a file.
 pub enum FileWritten {

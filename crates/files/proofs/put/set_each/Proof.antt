@@ -4,7 +4,7 @@ use Prim.Native.Nat.{ℕ, _+_, _-_, _≤_}
 use native.Mathlib.Omega.{arith}
 use lib.ListN.{length}
 use Rattle.files.specs.Put.{PointsPut}
-use Rattle.files.proofs.PutLaws.{points-none, points-more}
+use Rattle.files.proofs.PointLaws.{points-none, points-more}
 use Rattle.files.proofs.put.set_each.Statement.{statement}
 use Rattle.files.proofs.put.set_each.Tie as tie
 

@@ -8,7 +8,7 @@ use mir.Syntax.{w64}
 use mir.Facts.{toZ-ofZ}
 use Rattle.blocks.specs.Fields.{put64, bitsOf}
 use Rattle.files.specs.Put.{PointPut}
-use Rattle.files.proofs.PutLaws.{stored-as, point-put}
+use Rattle.files.proofs.PointLaws.{stored-as, point-put}
 use borrow.Author.Needs.{needs}
 use Rattle.files.proofs.put.set_point.Statement.{statement}
 use Rattle.files.proofs.put.set_point.Tie as tie

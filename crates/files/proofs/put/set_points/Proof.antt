@@ -5,7 +5,7 @@ use Prim.Native.Nat.{ℕ, _+_, _-_, _*_}
 use Rattle.files.specs.Layout.{countIn}
 use Rattle.files.specs.Structs.{PointsOf}
 use Rattle.files.specs.Put.{PointsPut}
-use Rattle.files.proofs.PutLaws.{points-sealed}
+use Rattle.files.proofs.PointLaws.{points-sealed}
 use borrow.Author.Needs.{needs}
 use Rattle.files.proofs.put.set_points.Statement.{statement}
 use Rattle.files.proofs.put.set_points.Tie as tie

@@ -12,7 +12,7 @@ use Rattle.files.specs.declared.read.FileHead.{FileHead}
 use Rattle.files.specs.declared.read.FileRead.the-variants.{Done}
 use Rattle.files.specs.Layout.{blockAt, blocksFor, pointsOf, valuesIn, modelsIn}
 use Rattle.files.specs.Structs.{headOf}
-use Rattle.files.specs.Answers.{LengthFits, AllChecked, Sound, ProperList, points, blocksIn, answerOf}
+use Rattle.files.specs.Taken.{LengthFits, AllChecked, Sound, ProperList, points, blocksIn, answerOf}
 use Rattle.files.proofs.ReadLaws.{sound-room, sound-total}
 use Rattle.files.proofs.read.read_file.Statement.{statement}
 use Rattle.files.proofs.read.read_file.Tie as tie
