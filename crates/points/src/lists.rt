@@ -2,7 +2,7 @@
 use crate::point::Point;
 use crate::vectors::before;
 use crate::vectors::le_all;
-use instance::signed::magnitude;
+use integers::magnitude;
 ghost use mathlib.Core.Path.{_≡_};
 ghost use Prim.Native.Nat.{_+_, _*_, _^_, _<_, _≤_};
 ghost use lib.ListN.{length};
