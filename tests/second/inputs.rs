@@ -76,6 +76,26 @@ pub const TRAPS: &[&[u8]] = &[
     b"min: \xff ;",
 ];
 
+/// What some texts must give, by hand from the rules: refusal number (0 = done) and n or the statement.
+pub const EXPECTED: &[(&[u8], u32, u32)] = &[
+    (b"min: +3 x1 +1 x2 +2 x3 ;\nmin: +1 x1 +4 x2 +2 x3 ;\n+1 x1 +1 x2 >= 1 ;\n+1 x2 +1 x3 >= 1 ;\n", 0, 3),
+    (b"min: ;", 0, 0),
+    (b"min: +1 ~x6 ;", 0, 6),
+    (b"min: +1 ~x65 ;", 7, 1),
+    (b">= 0 ; min: ;", 4, 2),
+    (b"", 9, 0),
+    (b";", 3, 1),
+    (b"min: ;*", 3, 2),
+    (b"* ; ends nothing\nmin: ;", 0, 0),
+    (b"min: 1 x1\n* a ; here\n; 1 x2 >= 0 ;", 0, 2),
+    (b"min: 10000000000 x1 ;", 3, 1),
+    (b"min: 1000001 x0 ;", 6, 1),
+    (b"min: ; min: ; min: ; min: ; min: 1000001 x0 ;", 5, 5),
+    (b"min: ; >= 4096000001 ;", 6, 2),
+    (b"min: ; >= 0", 3, 2),
+    (b"min: -0 x64 ; <= -0 ;", 0, 64),
+];
+
 /// Texts at the limits: rows, terms, bytes.
 pub fn limits() -> Vec<Vec<u8>> {
     let mut out: Vec<Vec<u8>> = Vec::new();

@@ -110,6 +110,13 @@ fn main() {
     let count = args.first().copied().unwrap_or(50_000);
     let mut r = Rng(args.get(1).copied().unwrap_or(1).wrapping_mul(0x9E37_79B9_7F4A_7C15) | 1);
     let mut reached = Reached::new();
+    for (text, refusal, value) in inputs::EXPECTED {
+        let (mut terms, mut rows) = (vec![7; doc01::TERM_ROOM], vec![7; doc01::ROW_ROOM]);
+        let got = library::read_text(text, &mut terms, &mut rows);
+        if got != (*refusal, *value) {
+            differ("reading a text whose answer is known", text, &got, &(refusal, value));
+        }
+    }
     for text in inputs::TRAPS.iter().map(|t| t.to_vec()).chain(inputs::limits()) {
         for _ in 0..3 {
             compare_read(&mut r, &mut reached, &text);
