@@ -16,7 +16,7 @@ use Rattle.instance.specs.Lists.{run}
 use Rattle.instance.specs.Terms.{Term, TermOk, sum}
 use Rattle.instance.specs.Tables.{termAt, kindAt, firstAt, countAt, isKind, isObjective, isRow, objectivesIn, rowsIn, entriesIn, termsIn, termsBefore, IsInstance}
 use Rattle.instance.specs.Meaning.{termsAt, entryAt, meaning}
-use Rattle.instance.specs.Structs.{EntryFine, EntryIs}
+use Rattle.instance.specs.Structs.{entryOf, EntryFine, EntryIs}
 use Rattle.instance.specs.declared.entries.Entry.{Entry as EntryNumbers}
 use Rattle.instance.proofs.TestLaws.{isKind-true}
 use Rattle.instance.proofs.ListLaws.{IsRun, run-is, tabulate-same, tabulate-length, tabulate-each, tabulate-member}
@@ -72,6 +72,10 @@ kind-natural rs k h = pick (decLt k (objectivesIn rs))
 -- What is read of entry k are the numbers of its meaning.
 pub entry-terms : (ts rs : List ℤ) (k : ℕ) {e : EntryNumbers} → EntryIs rs k e → termsAt ts (e .first) (e .count) ≡ (entryAt ts rs k) .terms
 entry-terms ts rs k {e} h = tabulate-same (termAt ts) (e .first) (natAbs (firstAt rs k)) (e .count) (natAbs (countAt rs k)) (h .first) (h .count)
+
+-- What is read of entry k is its meaning.
+pub entry-as : (ts rs : List ℤ) (k : ℕ) (e : EntryNumbers) → EntryIs rs k e → entryOf ts e ≡ entryAt ts rs k
+entry-as ts rs k e h = λ i. record { kind = h .kind i; terms = entry-terms ts rs k h i; bound = h .bound i }
 
 module _ {ts rs : List ℤ} (i : IsInstance ts rs) where
   -- ---- entries

@@ -8,6 +8,8 @@ use lib.ListN.{length}
 use lib.Signed.{nonNeg}
 use Rattle.instance.specs.Limits.{maxObjectives, maxRows, maxTerms, maxEntries, maxVariable, maxCoef, maxBound, termRoom, rowRoom}
 use Rattle.instance.specs.Terms.{Term}
+use Rattle.instance.specs.Rows.{Entry}
+use Rattle.instance.specs.Meaning.{termsAt}
 use Rattle.instance.specs.Tables.{kindAt, firstAt, countAt, boundAt}
 use Rattle.instance.specs.declared.terms.Term.{Term as TermPair}
 use Rattle.instance.specs.declared.entries.Entry.{Entry as EntryNumbers}
@@ -16,6 +18,10 @@ use Rattle.instance.specs.declared.limits.Limits.{Limits}
 -- The term that a coefficient and a literal of the code are.
 abbrev pub termOf : TermPair → Term
 termOf t = record { coef = t .coef; lit = t .lit }
+
+-- The entry whose numbers the code has in e.
+abbrev pub entryOf : List ℤ → EntryNumbers → Entry
+entryOf ts e = record { kind = e .kind; terms = termsAt ts (e .first) (e .count); bound = e .bound }
 
 -- Entry k stands in the table, and its kind, first index and count are not negative.
 pub record EntryFine (rs : List ℤ) (k : ℕ) : Type 0 where

@@ -185,3 +185,12 @@ pub ≤ℤ-eq : {x y : ℤ} → x ≡ y → x ≤ℤ y
 
 pub lt-not-le : (x m b : ℤ) → x ≤ℤ m → ltZ m b ≡ true → leZ b x ≡ false
 lt-not-le x m b h t = le-parts b x ∙ lt-leb (up b + dn x) (up x + dn b) (omega (arith, le-to h, ltb-true (up m + dn b) (up b + dn m) (sym (lt-parts m b) ∙ t)))
+
+-- ---- bits that are a number's own
+
+-- a small natural number is its own bits
+pub bits-value : (w : Width) (n : ℕ) → n < 2 ^ hbits w → toZ w n ≡ pos n
+bits-value w n h = toZ-ofZ {w = w} {z = pos n} (record { sfits = h })
+
+pub abs-neg : (z : ℤ) → natAbs (negℤ z) ≡ natAbs z
+abs-neg z = omega (arith, abs-parts z, abs-parts (negℤ z), neg-parts z)

@@ -14,7 +14,7 @@ use Rattle.instance.specs.Rows.{Entry}
 use Rattle.instance.specs.Layout.{termNumbers, allTerms, entryNumbers, filled, termTable, rowTable}
 use Rattle.reading.specs.declared.texts.TextRead.{TextRead}
 use Rattle.reading.specs.declared.texts.TextRead.the-variants.{Done, ShortTable, LongText}
-use Rattle.reading.specs.declared.texts.Reading.{Reading}
+use Rattle.reading.specs.declared.verdicts.Reading.{Reading}
 use Rattle.reading.specs.Limits.{maxText}
 use Rattle.reading.specs.Reading.{Outcome, accepted, refused, readBytes}
 use Rattle.reading.specs.Outcomes.{AllTaken, ReadIs}

@@ -10,11 +10,11 @@ use lib.IntN.{ℤ, pos, negsuc, natAbs, negℤ, _-ℤ_, +ℤ-idl}
 use lib.ListN.{length, drop, set, replicate, length-replicate}
 use lib.Seq.{drop-cons, set-at, sets}
 use borrow.Author.Tests.{lt-ltb, le-ltb, ltb-false}
-use Rattle.words.proofs.ByteLaws.{clash}
+use Rattle.words.proofs.ByteLaws.{or-neither}
 use mir.Syntax.{Width, w64}
 use mir.Val.{SFits, toZ, ofZ, hbits}
 use mir.Facts.{toZ-ofZ}
-use Rattle.integers.proofs.SignedLaws.{fits-as, read-as, sfits-abs}
+use Rattle.integers.proofs.SignedLaws.{fits-as, read-as, sfits-abs, bits-value}
 use Rattle.instance.specs.Limits.{maxTerms, maxCoef, maxVariable, termRoom, rowRoom}
 use Rattle.instance.specs.Terms.{Term}
 use Rattle.instance.specs.Layout.{termTable, rowTable, termNumbers, allTerms, entryNumbers}
@@ -32,9 +32,6 @@ sign-abs true (suc n) = refl
 
 pub value-abs : (x : Number) → natAbs (value x) ≡ x .size
 value-abs x = sign-abs (x .negative) (x .size)
-
-pub bits-value : (w : Width) (n : ℕ) → n < 2 ^ hbits w → toZ w n ≡ pos n
-bits-value w n h = toZ-ofZ {w = w} {z = pos n} (record { sfits = h })
 
 module _ (w : Width) (x : Number) (h : x .size < 2 ^ hbits w) where
   pub value-fits : SFits w (value x)
@@ -118,8 +115,4 @@ entry-sets rs k kind first count bound h i j f =
 
 -- a variable in range is small
 pub unnamed-small : (n : ℕ) → eqb n 0 || ltb maxVariable n ≡ false → n ≤ maxCoef
-unnamed-small n e = omega (arith, ltb-false maxVariable n (or-right (eqb n 0) (ltb maxVariable n) e))
-  where
-    or-right : (a b : Bool) → a || b ≡ false → b ≡ false
-    or-right true b e = clash (sym e)
-    or-right false b e = e
+unnamed-small n e = omega (arith, ltb-false maxVariable n (or-neither (eqb n 0) (ltb maxVariable n) e .1))

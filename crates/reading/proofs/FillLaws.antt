@@ -8,7 +8,7 @@ use native.Mathlib.Numerals.{add-one}
 use lib.IntN.{ℤ, pos}
 use lib.ListN.{length, take, drop, set, replicate, length-append, length-replicate, length-drop, drop-of-length-le}
 use lib.Seq.{take-at, drop-at, drop-append-add, drop-append-le, set-at, sets, sets-eq, drop-drop}
-use Rattle.words.proofs.ByteLaws.{clash}
+use Rattle.words.proofs.ByteLaws.{or-neither}
 use Rattle.instance.specs.Limits.{maxTerms, maxRows, maxObjectives, maxEntries, termRoom, rowRoom}
 use Rattle.instance.specs.Terms.{Term}
 use Rattle.instance.specs.Rows.{Entry}
@@ -65,10 +65,6 @@ fill-beyond room xs found h = ap (λ (n : ℕ). drop n (filled room xs found)) (
 
 -- ---- terms stored one after the other
 
-or-no : (a b : Bool) → a || b ≡ false → (a ≡ false) × (b ≡ false)
-or-no true b e = clash (sym e)
-or-no false b e = (refl, e)
-
 two : (p q : List ℤ) (k : ℕ) (t : Term) (a b : ℤ) → length p ≡ k * 2 → set (set (p ++ (a ∷ (b ∷ q))) (k * 2) (t .coef)) (k * 2 + 1) (t .lit) ≡ (p ++ (t .coef ∷ (t .lit ∷ []))) ++ q
 two p q k t a b h =
     ap (λ (l : List ℤ). set l (k * 2 + 1) (t .lit)) (set-at p a (b ∷ q) (t .coef) (k * 2) h ∙ sym (append-assoc p (t .coef ∷ []) (b ∷ q)))
@@ -83,8 +79,8 @@ stored-all [] p q k h w n m l = refl
 stored-all (u ∷ us) p [] k h w n m l = absurd (omega arith)
 stored-all (u ∷ us) p (a ∷ []) k h w n m l = absurd (omega arith)
 stored-all (u ∷ us) p (a ∷ (b ∷ q)) k h w n m l =
-    ap (λ (x : List ℤ). stored x (suc k) us) (sym (store-yes (p ++ (a ∷ (b ∷ q))) k u (omega arith) (or-no (isWide u) (any isWide us) w .0) (or-no (isUnnamed u) (any isUnnamed us) n .0)) ∙ two p q k u a b h)
-    ∙ stored-all us (p ++ (u .coef ∷ (u .lit ∷ []))) q (suc k) longer (or-no (isWide u) (any isWide us) w .1) (or-no (isUnnamed u) (any isUnnamed us) n .1) (omega arith) (omega arith)
+    ap (λ (x : List ℤ). stored x (suc k) us) (sym (store-yes (p ++ (a ∷ (b ∷ q))) k u (omega arith) (or-neither (isWide u) (any isWide us) w .0) (or-neither (isUnnamed u) (any isUnnamed us) n .0)) ∙ two p q k u a b h)
+    ∙ stored-all us (p ++ (u .coef ∷ (u .lit ∷ []))) q (suc k) longer (or-neither (isWide u) (any isWide us) w .1) (or-neither (isUnnamed u) (any isUnnamed us) n .1) (omega arith) (omega arith)
     ∙ append-assoc p (u .coef ∷ (u .lit ∷ [])) (termNumbers us ++ drop (length us * 2) q)
     ∙ ap (λ (j : ℕ). p ++ (u .coef ∷ (u .lit ∷ (termNumbers us ++ drop j (a ∷ (b ∷ q)))))) same
   where

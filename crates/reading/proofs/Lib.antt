@@ -5,6 +5,7 @@ pub mod StepLaws
 pub mod RunLaws
 pub mod StatementLaws
 pub mod ClosingLaws
+pub mod WholeLaws
 pub mod FillLaws
 pub mod MarksLaws
 pub mod VerdictLaws

@@ -19,7 +19,7 @@ use Rattle.instance.specs.Rows.{Entry}
 use Rattle.instance.specs.Layout.{allTerms, termNumbers, entryNumbers, termTable, rowTable}
 use Rattle.instance.proofs.SumLaws.{highest-append}
 use Rattle.reading.specs.declared.statements.Statement.{Statement}
-use Rattle.reading.specs.declared.texts.Reading.{Reading}
+use Rattle.reading.specs.declared.verdicts.Reading.{Reading}
 use Rattle.reading.specs.Grammar.{statement}
 use Rattle.reading.specs.Reading.{Outcome, accepted, refused, isFirst, verdict, goOn, addTo, finish, readMarks, readBytes}
 use Rattle.reading.specs.Stored.{stored}

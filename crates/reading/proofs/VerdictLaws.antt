@@ -8,7 +8,7 @@ use lib.Dec.{eqb, ltb, leb}
 use lib.IntN.{natAbs}
 use lib.ListN.{length, length-append}
 use borrow.Author.Tests.{ltb-false, leb-false}
-use Rattle.words.proofs.ByteLaws.{clash}
+use Rattle.words.proofs.ByteLaws.{or-neither}
 use Rattle.instance.specs.Limits.{maxObjectives, maxRows, maxTerms, maxBound}
 use Rattle.instance.specs.Terms.{Term}
 use Rattle.instance.specs.Rows.{Entry}
@@ -41,10 +41,6 @@ pub record Fine (os rs : List Entry) (e : Entry) : Type 0 where
   pub unnamed : any isUnnamed (e .terms) ≡ false
   pub terms : length (allTerms (os ++ rs)) + length (e .terms) ≤ maxTerms
 
-or-both : (a b : Bool) → a || b ≡ false → (a ≡ false) × (b ≡ false)
-or-both true b e = clash (sym e)
-or-both false b e = (refl, e)
-
 pub verdict-zero : (os rs : List Entry) (e : Entry) → verdict os rs e ≡ 0 → Fine os rs e
 verdict-zero os rs e h =
     let a = cond-zero (isFirst e && ltb 0 (length rs)) 3 _ h in
@@ -55,8 +51,8 @@ verdict-zero os rs e h =
     record {
       late = a .0;
       room = b .0;
-      wide = or-both (any isWide (e .terms)) (ltb maxBound (natAbs (e .bound))) (c .0) .0;
-      bound = or-both (any isWide (e .terms)) (ltb maxBound (natAbs (e .bound))) (c .0) .1;
+      wide = or-neither (any isWide (e .terms)) (ltb maxBound (natAbs (e .bound))) (c .0) .0;
+      bound = or-neither (any isWide (e .terms)) (ltb maxBound (natAbs (e .bound))) (c .0) .1;
       unnamed = d .0;
       terms = ltb-false maxTerms (length (allTerms (os ++ rs)) + length (e .terms)) (f .0);
     }

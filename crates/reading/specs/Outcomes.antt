@@ -12,7 +12,7 @@ use Rattle.instance.specs.Limits.{maxObjectives, maxRows, maxTerms, termRoom, r
 use Rattle.instance.specs.Terms.{highest}
 use Rattle.instance.specs.Rows.{Entry}
 use Rattle.instance.specs.Layout.{allTerms, termTable, rowTable}
-use Rattle.reading.specs.declared.texts.Reading.{Reading}
+use Rattle.reading.specs.declared.verdicts.Reading.{Reading}
 use Rattle.reading.specs.Reading.{accepted, refused, readBytes}
 
 -- A part of a text begins a line only where it is the whole text.

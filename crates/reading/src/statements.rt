@@ -3,6 +3,7 @@ use crate::cells::either;
 use crate::cells::is_far;
 use crate::cells::wide_value;
 use crate::terms::read_terms;
+use instance::Entry;
 use words::Place;
 use words::Token;
 use words::next_token;
@@ -43,7 +44,7 @@ pub struct Statement {
 impl Statement {
     pub const NOTHING: u64 = 0;
 
-    pub const OBJECTIVE: u64 = 1;
+    pub const OBJECTIVE: u64 = Entry::OBJECTIVE as u64;
 
     pub const BROKEN: u64 = 5;
 }

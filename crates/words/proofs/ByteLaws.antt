@@ -27,24 +27,25 @@ blank-last b h k l = sym (by (ne-eqb b 32 h) (ne-eqb b 9 k) (ne-eqb b 13 l))
         ∙ ap (λ (t : Bool). t || (eqb b 13 || eqb b 10)) f
         ∙ ap (λ (t : Bool). t || eqb b 10) g
 
-or-false : (s t : Bool) → s || t ≡ false → (s ≡ false) × (t ≡ false)
-or-false true t e = clash (sym e)
-or-false false t e = (refl, e)
+-- neither of two tests holds
+pub or-neither : (s t : Bool) → s || t ≡ false → (s ≡ false) × (t ≡ false)
+or-neither true t e = clash (sym e)
+or-neither false t e = (refl, e)
 
 -- ---- isPlain
 
 pub plain-blank : (b : ℕ) → isPlain b ≡ true → isBlank b ≡ false
-plain-blank b h = or-false (isBlank b) (eqb b 59) (by (isBlank b || eqb b 59) h) .0
+plain-blank b h = or-neither (isBlank b) (eqb b 59) (by (isBlank b || eqb b 59) h) .0
   where
     by : (t : Bool) → not t ≡ true → t ≡ false
     by t e = not-true t e
 
 pub plain-stop : (b : ℕ) → isPlain b ≡ true → eqb b 59 ≡ false
-plain-stop b h = or-false (isBlank b) (eqb b 59) (not-true (isBlank b || eqb b 59) h) .1
+plain-stop b h = or-neither (isBlank b) (eqb b 59) (not-true (isBlank b || eqb b 59) h) .1
 
 -- a byte that is no blank is no line end
 pub blank-line : (b : ℕ) → isBlank b ≡ false → eqb b 10 ≡ false
-blank-line b h = or-false (eqb b 13) (eqb b 10) (or-false (eqb b 9) (eqb b 13 || eqb b 10) (or-false (eqb b 32) (eqb b 9 || (eqb b 13 || eqb b 10)) h .1) .1) .1
+blank-line b h = or-neither (eqb b 13) (eqb b 10) (or-neither (eqb b 9) (eqb b 13 || eqb b 10) (or-neither (eqb b 32) (eqb b 9 || (eqb b 13 || eqb b 10)) h .1) .1) .1
 
 pub not-blank-after : (b : ℕ) → isBlank b ≡ false → placeAfter b ≡ Inside
 not-blank-after b h = ap (λ (t : Bool). cond t Start Inside) (blank-line b h)

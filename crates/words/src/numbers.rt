@@ -1,4 +1,5 @@
 // What a word says: a number, a literal, a relation, `min:`.
+use instance::Entry;
 ghost use mathlib.Core.Path.{_≡_};
 ghost use mathlib.Core.Option.{none};
 ghost use Rattle.words.specs.Numbers.{digits, number, literal, relation, isMin};
@@ -77,11 +78,11 @@ pub struct Relation {
 impl Relation {
     pub const NONE: u64 = 0;
 
-    pub const AT_LEAST: u64 = 2;
+    pub const AT_LEAST: u64 = Entry::AT_LEAST as u64;
 
-    pub const AT_MOST: u64 = 3;
+    pub const AT_MOST: u64 = Entry::AT_MOST as u64;
 
-    pub const EQUAL: u64 = 4;
+    pub const EQUAL: u64 = Entry::EQUAL as u64;
 }
 
 // The kind of row that a word stands for: `>=`, `<=`, `=`, and none for any other word.

@@ -12,23 +12,12 @@ use Rattle.instance.specs.Tables.{IsInstance, entriesIn}
 use Rattle.instance.specs.Meaning.{entryAt, meaning, termsAt}
 use Rattle.instance.specs.Structs.{EntryIs}
 use Rattle.instance.specs.declared.entries.Entry.{Entry as EntryNumbers}
-use Rattle.instance.proofs.InstanceLaws.{entry-terms, entry-inside}
+use Rattle.instance.proofs.InstanceLaws.{entry-inside}
 use Rattle.instance.proofs.MeaningLaws.{instance-entries, instance-within}
 use Rattle.writing.specs.Answers.{textOf}
-use Rattle.writing.specs.Structs.{entryOf}
 use Rattle.writing.specs.Limits.{maxWritten}
 use Rattle.writing.specs.Writing.{statementsText}
 use Rattle.writing.proofs.WithinLaws.{within-length}
-
-abbrev entry : ℕ → List Term → ℤ → Entry
-entry kind terms bound = record { kind = kind; terms = terms; bound = bound }
-
--- what is read of entry k is its meaning
-pub entry-as : (ts rs : List ℤ) (k : ℕ) (e : EntryNumbers) → EntryIs rs k e → entryOf ts e ≡ entryAt ts rs k
-entry-as ts rs k e h =
-    ap (λ (n : ℕ). entry n (termsAt ts (e .first) (e .count)) (e .bound)) (h .kind)
-    ∙ ap (λ (l : List Term). entry ((entryAt ts rs k) .kind) l (e .bound)) (entry-terms ts rs k h)
-    ∙ ap (entry ((entryAt ts rs k) .kind) ((entryAt ts rs k) .terms)) (h .bound)
 
 module _ {ts rs : List ℤ} (i : IsInstance ts rs) where
   -- its terms lie in the table

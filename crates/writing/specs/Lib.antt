@@ -1,5 +1,4 @@
 -- An instance as text. Read Writing, then Answers.
 pub mod Limits
 pub mod Writing
-pub mod Structs
 pub mod Answers

@@ -6,7 +6,7 @@ ghost use mathlib.Core.Path.{_≡_};
 ghost use Prim.Native.Nat.{_+_, _*_, _≤_};
 ghost use lib.ListN.{length};
 ghost use Rattle.decimal.specs.Bytes.{overwrite};
-ghost use Rattle.writing.specs.Structs.{entryOf};
+ghost use Rattle.instance.specs.Structs.{entryOf};
 ghost use Rattle.writing.specs.Limits.{maxWritten};
 ghost use Rattle.writing.specs.Writing.{headText, relationText, boundText, statementText};
 

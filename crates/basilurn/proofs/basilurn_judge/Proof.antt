@@ -1,3 +1,4 @@
+-- What judging answers, packed, and its four values stored.
 use mathlib.Core.Path.{_≡_, refl, sym, ap, _∙_}
 use Rattle.judge.specs.declared.judging.Judged.{Judged}
 use Rattle.judge.specs.Answers.{answerOf}
@@ -5,12 +6,6 @@ use Rattle.basilurn.specs.Words.{packed, fourOf}
 use borrow.Author.Needs.{needs}
 use Rattle.basilurn.proofs.basilurn_judge.Statement.{statement}
 use Rattle.basilurn.proofs.basilurn_judge.Tie as tie
-use Rattle.basilurn.proofs.basilurn_judge.Reads as reads
-use Rattle.basilurn.proofs.basilurn_judge.Lts as lts
-use Rattle.basilurn.proofs.no_judgement.Reads as no-judgement-reads
-use Rattle.basilurn.proofs.pack.Reads as pack-reads
-use Rattle.basilurn.proofs.put_values.Reads as put-values-reads
-use Rattle.judge.proofs.judge_assignment.Reads as judge-assignment-reads
 
 judge-assignment-requires : tie.Need-judge-assignment-requires
 judge-assignment-requires c κs = search needs

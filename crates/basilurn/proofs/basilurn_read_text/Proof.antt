@@ -1,3 +1,4 @@
+-- What reading answers, packed.
 use mathlib.Core.Path.{_≡_, refl, sym, ap, _∙_}
 use Rattle.reading.specs.declared.texts.TextRead.{TextRead}
 use Rattle.reading.specs.Answers.{readNumber, readValue}
@@ -5,10 +6,6 @@ use Rattle.basilurn.specs.Words.{packed}
 use borrow.Author.Needs.{needs}
 use Rattle.basilurn.proofs.basilurn_read_text.Statement.{statement}
 use Rattle.basilurn.proofs.basilurn_read_text.Tie as tie
-use Rattle.basilurn.proofs.basilurn_read_text.Reads as reads
-use Rattle.basilurn.proofs.basilurn_read_text.Lts as lts
-use Rattle.basilurn.proofs.pack_read.Reads as pack-read-reads
-use Rattle.reading.proofs.read_text.Reads as read-text-reads
 
 read-text-requires : tie.Need-read-text-requires
 read-text-requires c κs = search needs

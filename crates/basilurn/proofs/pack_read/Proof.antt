@@ -1,3 +1,4 @@
+-- Each case packs the number and the value that the definition has for it.
 use mathlib.Core.Path.{_≡_, refl, sym, ap, _∙_}
 use Rattle.reading.specs.declared.texts.TextRead.{TextRead}
 use Rattle.reading.specs.Answers.{readNumber, readValue}
@@ -5,9 +6,6 @@ use Rattle.basilurn.specs.Words.{packed}
 use borrow.Author.Needs.{needs}
 use Rattle.basilurn.proofs.pack_read.Statement.{statement}
 use Rattle.basilurn.proofs.pack_read.Tie as tie
-use Rattle.basilurn.proofs.pack_read.Reads as reads
-use Rattle.basilurn.proofs.pack_read.Lts as lts
-use Rattle.basilurn.proofs.pack.Reads as pack-reads
 
 enum-known-r : tie.Need-enum-known-r
 enum-known-r c = search needs

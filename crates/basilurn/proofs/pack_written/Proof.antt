@@ -1,3 +1,4 @@
+-- Each case packs the number and the value that the definition has for it.
 use mathlib.Core.Path.{_≡_, refl, sym, ap, _∙_}
 use Rattle.writing.specs.declared.TextWritten.{TextWritten}
 use Rattle.writing.specs.Answers.{writtenNumber, writtenValue}
@@ -5,9 +6,6 @@ use Rattle.basilurn.specs.Words.{packed}
 use borrow.Author.Needs.{needs}
 use Rattle.basilurn.proofs.pack_written.Statement.{statement}
 use Rattle.basilurn.proofs.pack_written.Tie as tie
-use Rattle.basilurn.proofs.pack_written.Reads as reads
-use Rattle.basilurn.proofs.pack_written.Lts as lts
-use Rattle.basilurn.proofs.pack.Reads as pack-reads
 
 enum-known-r : tie.Need-enum-known-r
 enum-known-r c = search needs

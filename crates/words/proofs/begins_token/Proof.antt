@@ -1,13 +1,10 @@
+-- By the test of a blank, then of being kept.
 use mathlib.Core.Path.{sym, ap, _∙_}
 use mathlib.Core.Bool.{Bool, not, _&&_}
 use Rattle.words.specs.Bytes.{isKept}
 use borrow.Author.Needs.{needs}
 use Rattle.words.proofs.begins_token.Statement.{statement}
 use Rattle.words.proofs.begins_token.Tie as tie
-use Rattle.words.proofs.begins_token.Reads as reads
-use Rattle.words.proofs.begins_token.Lts as lts
-use Rattle.words.proofs.is_blank.Reads as is-blank-reads
-use Rattle.words.proofs.is_kept.Reads as is-kept-reads
 
 is-blank-requires : tie.Need-is-blank-requires
 is-blank-requires c κs = search needs

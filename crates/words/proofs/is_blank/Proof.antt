@@ -1,11 +1,10 @@
+-- Each test that is taken names one of the four blank bytes; the last test is what is left of the definition.
 use borrow.Author.Needs.{needs}
 use mathlib.Core.Path.{sym, ap}
 use Rattle.words.specs.Bytes.{isBlank}
 use Rattle.words.proofs.ByteLaws.{blank-last}
 use Rattle.words.proofs.is_blank.Statement.{statement}
 use Rattle.words.proofs.is_blank.Tie as tie
-use Rattle.words.proofs.is_blank.Reads as reads
-use Rattle.words.proofs.is_blank.Lts as lts
 
 returns : tie.Need-returns
 returns c = sym (ap isBlank (c .if1 .taken))

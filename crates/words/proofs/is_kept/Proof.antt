@@ -1,11 +1,10 @@
+-- By the place: each arm is one clause of the definition.
 use mathlib.Core.Path.{sym, ap}
 use Rattle.words.specs.declared.Place.{Place}
 use Rattle.words.specs.Bytes.{isKept}
 use borrow.Author.Needs.{needs}
 use Rattle.words.proofs.is_kept.Statement.{statement}
 use Rattle.words.proofs.is_kept.Tie as tie
-use Rattle.words.proofs.is_kept.Reads as reads
-use Rattle.words.proofs.is_kept.Lts as lts
 
 enum-told : tie.Need-enum-told
 enum-told c = search needs

@@ -1,12 +1,10 @@
+-- By the test of a blank, then of `;`.
 use mathlib.Core.Path.{sym, ap, _∙_}
 use mathlib.Core.Bool.{Bool, not, _||_}
 use lib.Dec.{eqb}
 use borrow.Author.Needs.{needs}
 use Rattle.words.proofs.is_plain.Statement.{statement}
 use Rattle.words.proofs.is_plain.Tie as tie
-use Rattle.words.proofs.is_plain.Reads as reads
-use Rattle.words.proofs.is_plain.Lts as lts
-use Rattle.words.proofs.is_blank.Reads as is-blank-reads
 
 is-blank-requires : tie.Need-is-blank-requires
 is-blank-requires c κs = search needs

@@ -1,3 +1,4 @@
+-- By the place, then by the byte: each arm is one clause of the definition.
 use mathlib.Core.Path.{_≡_, sym, ap, _∙_}
 use mathlib.Core.Bool.{Bool, cond}
 use Prim.Native.Nat.{ℕ}
@@ -9,9 +10,6 @@ use Rattle.words.specs.Bytes.{nextPlace, placeAfter}
 use borrow.Author.Needs.{needs}
 use Rattle.words.proofs.next_place.Statement.{statement}
 use Rattle.words.proofs.next_place.Tie as tie
-use Rattle.words.proofs.next_place.Reads as reads
-use Rattle.words.proofs.next_place.Lts as lts
-use Rattle.words.proofs.place_after.Reads as place-after-reads
 
 enum-told : tie.Need-enum-told
 enum-told c = search needs

@@ -1,3 +1,4 @@
+-- What stands after the blanks: the end, a `;`, or a word up to its end; each is one law of the marks.
 use mathlib.Core.Path.{_≡_, refl, sym, ap, _∙_}
 use Prim.Native.Nat.{ℕ, _+_, _-_, _≤_, _<_}
 use native.Mathlib.Omega.{arith}
@@ -7,10 +8,6 @@ use Rattle.words.proofs.MarkLaws.{none-end, stop-marks, word-marks, wor
 use borrow.Author.Needs.{needs}
 use Rattle.words.proofs.next_token.Statement.{statement}
 use Rattle.words.proofs.next_token.Tie as tie
-use Rattle.words.proofs.next_token.Reads as reads
-use Rattle.words.proofs.next_token.Lts as lts
-use Rattle.words.proofs.skip_blanks.Reads as skip-blanks-reads
-use Rattle.words.proofs.word_end.Reads as word-end-reads
 
 skip-blanks-requires : tie.Need-skip-blanks-requires
 skip-blanks-requires c κs = search needs

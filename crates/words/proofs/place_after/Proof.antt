@@ -1,3 +1,4 @@
+-- By the test of LF.
 use borrow.Author.Needs.{needs}
 use mathlib.Core.Path.{sym, ap}
 use mathlib.Core.Bool.{Bool, cond}
@@ -5,8 +6,6 @@ use borrow.Author.Tests.{eq-eqb, ne-eqb}
 use Rattle.words.specs.declared.Place.the-variants.{Inside, Start}
 use Rattle.words.proofs.place_after.Statement.{statement}
 use Rattle.words.proofs.place_after.Tie as tie
-use Rattle.words.proofs.place_after.Reads as reads
-use Rattle.words.proofs.place_after.Lts as lts
 
 returns : tie.Need-returns
 returns c = sym (ap (λ (t : Bool). cond t Start Inside) (eq-eqb (c .before .args .b) 10 (c .if1 .taken)))

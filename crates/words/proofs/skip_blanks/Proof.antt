@@ -1,3 +1,5 @@
+-- Invariant: from i on, at the place p, the text has the marks that it has from the start. A byte that begins nothing adds no mark (skip-step); one that begins
+-- something ends the loop, where the place counts no more (skip-stop). Measure: what is left of the text.
 use borrow.Author.Needs.{needs}
 use mathlib.Core.Path.{_≡_, refl, sym, ap, _∙_}
 use Prim.Native.Nat.{ℕ, _+_, _-_, _≤_, _<_}
@@ -9,10 +11,6 @@ use Rattle.words.proofs.ByteLaws.{begins-true}
 use Rattle.words.proofs.MarkLaws.{skip-step, skip-stop, skip-end}
 use Rattle.words.proofs.skip_blanks.Statement.{statement}
 use Rattle.words.proofs.skip_blanks.Tie as tie
-use Rattle.words.proofs.skip_blanks.Reads as reads
-use Rattle.words.proofs.skip_blanks.Lts as lts
-use Rattle.words.proofs.begins_token.Reads as begins-token-reads
-use Rattle.words.proofs.next_place.Reads as next-place-reads
 
 abbrev Inv-loop : tie.InvT-loop
 Inv-loop text from i₀ p₀ i p = (from ≤ i) × (i ≤ length text) × (marksAt p₀ (drop from text) ≡ marksAt p (drop i text))

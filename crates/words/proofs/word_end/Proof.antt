@@ -1,3 +1,4 @@
+-- Invariant: all bytes passed are part of a word. Measure: what is left of the text.
 use borrow.Author.Needs.{needs}
 use mathlib.Core.Path.{_≡_, sym, ap, _∙_}
 use mathlib.Core.Bool.{true}
@@ -9,9 +10,6 @@ use Rattle.words.specs.Bytes.{isPlain}
 use Rattle.words.proofs.ByteLaws.{plain-more}
 use Rattle.words.proofs.word_end.Statement.{statement}
 use Rattle.words.proofs.word_end.Tie as tie
-use Rattle.words.proofs.word_end.Reads as reads
-use Rattle.words.proofs.word_end.Lts as lts
-use Rattle.words.proofs.is_plain.Reads as is-plain-reads
 
 abbrev Inv-loop : tie.InvT-loop
 Inv-loop text from i₀ i = (from ≤ i) × (i ≤ length text) × ((k : ℕ) → from ≤ k → k < i → isPlain (getD text k 0) ≡ true)

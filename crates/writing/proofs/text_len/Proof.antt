@@ -8,12 +8,12 @@ use lib.ListN.{length, length-append}
 use Rattle.instance.specs.Lists.{tabulate}
 use Rattle.instance.specs.Rows.{Entry}
 use Rattle.instance.specs.Meaning.{entryAt}
-use Rattle.instance.proofs.InstanceLaws.{entry-fine}
+use Rattle.instance.proofs.InstanceLaws.{entry-fine, entry-as}
 use Rattle.writing.specs.Answers.{textOf}
-use Rattle.writing.specs.Structs.{entryOf}
+use Rattle.instance.specs.Structs.{entryOf}
 use Rattle.writing.specs.Writing.{statementText, statementsText}
 use Rattle.writing.proofs.TextLaws.{statements-more, statements-none}
-use Rattle.writing.proofs.TableTextLaws.{entry-as, entry-room, text-entries, text-most}
+use Rattle.writing.proofs.TableTextLaws.{entry-room, text-entries, text-most}
 use Rattle.writing.proofs.text_len.Statement.{statement}
 use Rattle.writing.proofs.text_len.Tie as tie
 

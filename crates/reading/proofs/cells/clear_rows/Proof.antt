@@ -1,3 +1,4 @@
+-- Invariant: the first i numbers are zero, the rest as found. Measure: what is left of the room.
 use borrow.Author.Needs.{needs}
 use mathlib.Core.Path.{_≡_, refl, sym, ap, _∙_}
 use mathlib.Core.List.{List, _++_}
@@ -9,8 +10,6 @@ use Rattle.instance.specs.Limits.{rowRoom}
 use Rattle.reading.proofs.CellLaws.{clear-step, clear-rows-end}
 use Rattle.reading.proofs.cells.clear_rows.Statement.{statement}
 use Rattle.reading.proofs.cells.clear_rows.Tie as tie
-use Rattle.reading.proofs.cells.clear_rows.Reads as reads
-use Rattle.reading.proofs.cells.clear_rows.Lts as lts
 
 abbrev Inv-loop : tie.InvT-loop
 Inv-loop rows₀ i₀ rows i = (i ≤ rowRoom) × (length rows ≡ length rows₀) × (rows ≡ replicate i (pos 0) ++ drop i rows₀)

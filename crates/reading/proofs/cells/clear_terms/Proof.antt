@@ -1,3 +1,4 @@
+-- Invariant: the first i numbers are zero, the rest as found. Measure: what is left of the room.
 use borrow.Author.Needs.{needs}
 use mathlib.Core.Path.{_≡_, refl, sym, ap, _∙_}
 use mathlib.Core.List.{List, _++_}
@@ -9,8 +10,6 @@ use Rattle.instance.specs.Limits.{termRoom}
 use Rattle.reading.proofs.CellLaws.{clear-step, clear-terms-end}
 use Rattle.reading.proofs.cells.clear_terms.Statement.{statement}
 use Rattle.reading.proofs.cells.clear_terms.Tie as tie
-use Rattle.reading.proofs.cells.clear_terms.Reads as reads
-use Rattle.reading.proofs.cells.clear_terms.Lts as lts
 
 abbrev Inv-loop : tie.InvT-loop
 Inv-loop terms₀ i₀ terms i = (i ≤ termRoom) × (length terms ≡ length terms₀) × (terms ≡ replicate i (pos 0) ++ drop i terms₀)

@@ -1,3 +1,4 @@
+-- By the test of 0.
 use borrow.Author.Needs.{needs}
 use mathlib.Core.Path.{sym, ap}
 use mathlib.Core.Bool.{Bool, _||_}
@@ -5,8 +6,6 @@ use lib.Dec.{ltb}
 use borrow.Author.Tests.{eq-eqb, ne-eqb}
 use Rattle.reading.proofs.cells.is_unnamed.Statement.{statement}
 use Rattle.reading.proofs.cells.is_unnamed.Tie as tie
-use Rattle.reading.proofs.cells.is_unnamed.Reads as reads
-use Rattle.reading.proofs.cells.is_unnamed.Lts as lts
 
 returns : tie.Need-returns
 returns c = sym (ap (λ (b : Bool). b || ltb 64 (c .before .args .size)) (eq-eqb (c .before .args .size) 0 (c .if1 .taken)))

@@ -1,3 +1,4 @@
+-- Four stores at places that follow each other; the numbers are small and stored as they are.
 use mathlib.Core.Path.{_≡_, refl, sym, ap, _∙_}
 use native.Mathlib.Omega.{arith}
 use lib.ListN.{length-set}
@@ -6,8 +7,6 @@ use Rattle.reading.proofs.CellLaws.{entry-sets}
 use borrow.Author.Needs.{needs}
 use Rattle.reading.proofs.cells.store_entry.Statement.{statement}
 use Rattle.reading.proofs.cells.store_entry.Tie as tie
-use Rattle.reading.proofs.cells.store_entry.Reads as reads
-use Rattle.reading.proofs.cells.store_entry.Lts as lts
 
 mul-at : tie.Need-mul-at
 mul-at c = search needs

@@ -1,3 +1,4 @@
+-- A place without room or a number out of range stores nothing, as the definition says; else both numbers are stored as they are.
 use mathlib.Core.Path.{_≡_, refl, sym, ap, ap₂, _∙_}
 use mathlib.Core.List.{List}
 use Prim.Native.Nat.{_+_, _*_, _≤_, _<_}
@@ -13,11 +14,6 @@ use Rattle.reading.proofs.CellLaws.{store-full, store-wide, store-unnam
 use borrow.Author.Needs.{needs}
 use Rattle.reading.proofs.cells.store_term.Statement.{statement}
 use Rattle.reading.proofs.cells.store_term.Tie as tie
-use Rattle.reading.proofs.cells.store_term.Reads as reads
-use Rattle.reading.proofs.cells.store_term.Lts as lts
-use Rattle.reading.proofs.cells.is_unnamed.Reads as is-unnamed-reads
-use Rattle.reading.proofs.cells.is_wide.Reads as is-wide-reads
-use Rattle.reading.proofs.cells.narrow_value.Reads as narrow-value-reads
 
 returns : tie.Need-returns
 returns c = store-full (c .before .args .terms .now) (c .before .args .k) (termOf (c .before .args .coef) (c .before .args .lit)) (c .if1 .taken)

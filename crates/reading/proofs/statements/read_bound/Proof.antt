@@ -1,3 +1,4 @@
+-- By the token: no word, a word that is no number, or no `;` after it, and no row goes on so; else the bound.
 use mathlib.Core.Path.{_≡_, refl, sym, ap, _∙_}
 use mathlib.Core.List.{List, _∷_}
 use Prim.Native.Nat.{ℕ}
@@ -11,11 +12,6 @@ use Rattle.reading.proofs.StatementLaws.{bound-none, bound-bad, bound-m
 use borrow.Author.Needs.{needs}
 use Rattle.reading.proofs.statements.read_bound.Statement.{statement}
 use Rattle.reading.proofs.statements.read_bound.Tie as tie
-use Rattle.reading.proofs.statements.read_bound.Reads as reads
-use Rattle.reading.proofs.statements.read_bound.Lts as lts
-use Rattle.reading.proofs.statements.no_bound.Reads as no-bound-reads
-use Rattle.words.proofs.next_token.Reads as next-token-reads
-use Rattle.words.proofs.numbers.read_number.Reads as read-number-reads
 
 next-token-requires : tie.Need-next-token-requires
 next-token-requires c κs = search needs

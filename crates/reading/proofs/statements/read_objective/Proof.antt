@@ -1,13 +1,10 @@
+-- By where the run of terms stops: only a `;` ends an objective.
 use native.Mathlib.Omega.{arith}
 use borrow.Author.Tests.{not-true, not-false}
 use Rattle.reading.proofs.ClosingLaws.{objective-unread, objective-open, objective-done}
 use borrow.Author.Needs.{needs}
 use Rattle.reading.proofs.statements.read_objective.Statement.{statement}
 use Rattle.reading.proofs.statements.read_objective.Tie as tie
-use Rattle.reading.proofs.statements.read_objective.Reads as reads
-use Rattle.reading.proofs.statements.read_objective.Lts as lts
-use Rattle.reading.proofs.statements.only.Reads as only-reads
-use Rattle.reading.proofs.terms.read_terms.Reads as read-terms-reads
 
 read-terms-requires : tie.Need-read-terms-requires
 read-terms-requires c κs = search needs

@@ -1,3 +1,4 @@
+-- By where the run of terms stops: only a relation goes on, with a bound and a `;`.
 use mir.Facts.{toZ-ofZ}
 use mathlib.Core.Path.{_≡_, refl, sym, ap, _∙_}
 use mathlib.Core.Bool.{Bool, _||_}
@@ -7,15 +8,6 @@ use Rattle.reading.proofs.ClosingLaws.{row-unread, row-open, row-unboun
 use borrow.Author.Needs.{needs}
 use Rattle.reading.proofs.statements.read_row.Statement.{statement}
 use Rattle.reading.proofs.statements.read_row.Tie as tie
-use Rattle.reading.proofs.statements.read_row.Reads as reads
-use Rattle.reading.proofs.statements.read_row.Lts as lts
-use Rattle.reading.proofs.cells.either.Reads as either-reads
-use Rattle.reading.proofs.cells.is_far.Reads as is-far-reads
-use Rattle.reading.proofs.cells.wide_value.Reads as wide-value-reads
-use Rattle.reading.proofs.statements.only.Reads as only-reads
-use Rattle.reading.proofs.statements.read_bound.Reads as read-bound-reads
-use Rattle.reading.proofs.terms.read_terms.Reads as read-terms-reads
-use Rattle.words.proofs.numbers.read_relation.Reads as read-relation-reads
 
 read-terms-requires : tie.Need-read-terms-requires
 read-terms-requires c κs = search needs

@@ -1,17 +1,11 @@
+-- By the first token: nothing, an empty statement, an objective after `min:`, or a row that begins with this very word.
 use mathlib.Core.Path.{_≡_, refl, sym, ap, _∙_}
 use native.Mathlib.Omega.{arith}
 use Rattle.words.proofs.TokenLaws.{token-left}
-use Rattle.reading.proofs.ClosingLaws.{statement-none, statement-empty, statement-objective, statement-other}
+use Rattle.reading.proofs.WholeLaws.{statement-none, statement-empty, statement-objective, statement-other}
 use borrow.Author.Needs.{needs}
 use Rattle.reading.proofs.statements.read_statement.Statement.{statement}
 use Rattle.reading.proofs.statements.read_statement.Tie as tie
-use Rattle.reading.proofs.statements.read_statement.Reads as reads
-use Rattle.reading.proofs.statements.read_statement.Lts as lts
-use Rattle.reading.proofs.statements.only.Reads as only-reads
-use Rattle.reading.proofs.statements.read_objective.Reads as read-objective-reads
-use Rattle.reading.proofs.statements.read_row.Reads as read-row-reads
-use Rattle.words.proofs.next_token.Reads as next-token-reads
-use Rattle.words.proofs.numbers.is_min.Reads as is-min-reads
 
 next-token-requires : tie.Need-next-token-requires
 next-token-requires c κs = search needs

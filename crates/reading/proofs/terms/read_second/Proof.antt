@@ -1,3 +1,4 @@
+-- By the token after the coefficient: a word that is a literal makes the term; any other breaks the grammar (no-second, bad-second).
 use mathlib.Core.Path.{_≡_, refl, sym, ap, _∙_}
 use mathlib.Core.List.{List, []}
 use Prim.Native.Nat.{ℕ, _≤_, _<_}
@@ -9,11 +10,6 @@ use Rattle.reading.proofs.StepLaws.{no-second, bad-second}
 use borrow.Author.Needs.{needs}
 use Rattle.reading.proofs.terms.read_second.Statement.{statement}
 use Rattle.reading.proofs.terms.read_second.Tie as tie
-use Rattle.reading.proofs.terms.read_second.Reads as reads
-use Rattle.reading.proofs.terms.read_second.Lts as lts
-use Rattle.words.proofs.next_token.Reads as next-token-reads
-use Rattle.words.proofs.numbers.no_number.Reads as no-number-reads
-use Rattle.words.proofs.numbers.read_literal.Reads as read-literal-reads
 
 next-token-requires : tie.Need-next-token-requires
 next-token-requires c κs = search needs

@@ -1,3 +1,4 @@
+-- By the token: no word or a relation stops the terms, a word that is no number breaks the grammar, else read_second decides.
 use mathlib.Core.Path.{_≡_, refl, sym, ap, _∙_}
 use mathlib.Core.List.{List, [], _∷_}
 use mathlib.Core.Option.{some}
@@ -14,13 +15,6 @@ use Rattle.reading.proofs.StepLaws.{bad-first, term-is}
 use borrow.Author.Needs.{needs}
 use Rattle.reading.proofs.terms.read_term.Statement.{statement}
 use Rattle.reading.proofs.terms.read_term.Tie as tie
-use Rattle.reading.proofs.terms.read_term.Reads as reads
-use Rattle.reading.proofs.terms.read_term.Lts as lts
-use Rattle.reading.proofs.terms.read_second.Reads as read-second-reads
-use Rattle.words.proofs.next_token.Reads as next-token-reads
-use Rattle.words.proofs.numbers.no_number.Reads as no-number-reads
-use Rattle.words.proofs.numbers.read_number.Reads as read-number-reads
-use Rattle.words.proofs.numbers.read_relation.Reads as read-relation-reads
 
 next-token-requires : tie.Need-next-token-requires
 next-token-requires c κs = search needs

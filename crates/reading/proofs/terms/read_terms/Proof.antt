@@ -1,3 +1,5 @@
+-- Invariant (Going): the terms so far lead from the start to `at`, are stored, and the flags and the highest variable are theirs.
+-- Measure: what is left of the text; each term has at least one byte.
 use borrow.Author.Needs.{needs}
 use mathlib.Core.Path.{_≡_, refl, sym, ap, _∙_}
 use mathlib.Core.Bool.{Bool, _||_}
@@ -12,14 +14,6 @@ use Rattle.reading.proofs.RunLaws.{Going, going-start, going-length, go
 use Rattle.words.proofs.ByteLaws.{clash}
 use Rattle.reading.proofs.terms.read_terms.Statement.{statement}
 use Rattle.reading.proofs.terms.read_terms.Tie as tie
-use Rattle.reading.proofs.terms.read_terms.Reads as reads
-use Rattle.reading.proofs.terms.read_terms.Lts as lts
-use Rattle.reading.proofs.cells.either.Reads as either-reads
-use Rattle.reading.proofs.cells.higher.Reads as higher-reads
-use Rattle.reading.proofs.cells.is_unnamed.Reads as is-unnamed-reads
-use Rattle.reading.proofs.cells.is_wide.Reads as is-wide-reads
-use Rattle.reading.proofs.cells.store_term.Reads as store-term-reads
-use Rattle.reading.proofs.terms.read_term.Reads as read-term-reads
 
 abbrev Inv-loop : tie.InvT-loop
 Inv-loop text from terms₀ base at₀ count₀ wide₀ unnamed₀ top₀ terms at count wide unnamed top = Going text from base terms₀ terms at count wide unnamed top

@@ -1,3 +1,5 @@
+-- Invariant (Taking): the tables hold the entries so far, and what is left of the text decides what the whole text says. Each way out reads off
+-- what the definition says there. Measure: what is left of the text; each statement has at least its `;`.
 use borrow.Author.Needs.{needs}
 use mathlib.Core.Path.{_≡_, refl, sym, ap, _∙_}
 use Prim.Native.Nat.{ℕ, _+_, _-_, _≤_, _<_}
@@ -12,17 +14,6 @@ use Rattle.reading.specs.Outcomes.{verdictBy}
 use Rattle.reading.proofs.VerdictLaws.{one-le}
 use Rattle.reading.proofs.texts.read_statements.Statement.{statement}
 use Rattle.reading.proofs.texts.read_statements.Tie as tie
-use Rattle.reading.proofs.texts.read_statements.Reads as reads
-use Rattle.reading.proofs.texts.read_statements.Lts as lts
-use Rattle.reading.proofs.cells.higher.Reads as higher-reads
-use Rattle.reading.proofs.cells.store_entry.Reads as store-entry-reads
-use Rattle.reading.proofs.statements.read_statement.Reads as read-statement-reads
-use Rattle.reading.proofs.texts.finish.Reads as finish-reads
-use Rattle.reading.proofs.texts.is_full.Reads as is-full-reads
-use Rattle.reading.proofs.texts.is_late.Reads as is-late-reads
-use Rattle.reading.proofs.texts.one_if_objective.Reads as one-if-objective-reads
-use Rattle.reading.proofs.texts.place_at.Reads as place-at-reads
-use Rattle.reading.proofs.texts.verdict_of.Reads as verdict-of-reads
 
 abbrev Inv-loop : tie.InvT-loop
 Inv-loop text terms₀ rows₀ at₀ number₀ objectives₀ others₀ total₀ top₀ terms rows at number objectives others total top = Taking text terms₀ rows₀ terms rows at number objectives others total top

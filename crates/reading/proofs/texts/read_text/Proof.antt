@@ -1,15 +1,10 @@
+-- Short tables and a long text are answered at once; else both rooms are cleared, the statements say what the text says, and a refusal clears the rooms again.
 use mathlib.Core.Path.{_≡_, refl, sym, ap, _∙_}
 use native.Mathlib.Omega.{arith}
 use Rattle.reading.proofs.AnswerLaws.{terms-cleared, terms-long, rows-cleared, rows-long, short-terms, short-rows, long-text, answers-done, answers-refused}
 use borrow.Author.Needs.{needs}
 use Rattle.reading.proofs.texts.read_text.Statement.{statement}
 use Rattle.reading.proofs.texts.read_text.Tie as tie
-use Rattle.reading.proofs.texts.read_text.Reads as reads
-use Rattle.reading.proofs.texts.read_text.Lts as lts
-use Rattle.reading.proofs.cells.clear_rows.Reads as clear-rows-reads
-use Rattle.reading.proofs.cells.clear_terms.Reads as clear-terms-reads
-use Rattle.reading.proofs.texts.read_statements.Reads as read-statements-reads
-use Rattle.reading.proofs.texts.refusal_of.Reads as refusal-of-reads
 
 returns : tie.Need-returns
 returns c = short-terms (c .before .before .args .text .now) (c .before .before .args .terms .now) (c .before .before .args .rows .now) (c .if1 .taken)

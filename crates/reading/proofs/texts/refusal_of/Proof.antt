@@ -1,3 +1,4 @@
+-- The tests in turn are the clauses of the definition in turn.
 use borrow.Author.Needs.{needs}
 use mathlib.Core.Path.{_≡_, refl, sym, ap, _∙_}
 use mathlib.Core.Bool.{Bool, cond, _&&_}
@@ -7,8 +8,6 @@ use borrow.Author.Tests.{eq-eqb, ne-eqb, lt-ltb, le-ltb}
 use Rattle.reading.specs.declared.texts.TextRead.the-variants.{Grammar, LateObjective, TooMany, OutOfRange, NoVariable, TooManyTerms, NoObjective}
 use Rattle.reading.proofs.texts.refusal_of.Statement.{statement}
 use Rattle.reading.proofs.texts.refusal_of.Tie as tie
-use Rattle.reading.proofs.texts.refusal_of.Reads as reads
-use Rattle.reading.proofs.texts.refusal_of.Lts as lts
 
 returns : tie.Need-returns
 returns c = sym (ap (λ (b : Bool). cond b (Grammar (c .before .args .statement)) (cond (eqb (c .before .args .number) 4) (LateObjective (c .before .args .statement)) (cond (eqb (c .before .args .number) 5) (TooMany (c .before .args .statement)) (cond (eqb (c .before .args .number) 6) (OutOfRange (c .before .args .statement)) (cond (eqb (c .before .args .number) 7) (NoVariable (c .before .args .statement)) (cond (eqb (c .before .args .number) 8) (TooManyTerms (c .before .args .statement)) (NoObjective))))))) (eq-eqb (c .before .args .number) 3 (c .if1 .taken)))

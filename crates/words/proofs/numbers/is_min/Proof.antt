@@ -1,3 +1,4 @@
+-- By the length, then the four bytes in turn.
 use mathlib.Core.Path.{sym, ap, _∙_}
 use mathlib.Core.Bool.{Bool, _&&_}
 use lib.Dec.{eqb}
@@ -7,8 +8,6 @@ use Rattle.words.proofs.NumberLaws.{min-four, min-other}
 use borrow.Author.Needs.{needs}
 use Rattle.words.proofs.numbers.is_min.Statement.{statement}
 use Rattle.words.proofs.numbers.is_min.Tie as tie
-use Rattle.words.proofs.numbers.is_min.Reads as reads
-use Rattle.words.proofs.numbers.is_min.Lts as lts
 
 returns : tie.Need-returns
 returns c = sym (min-other (c .before .args .word .now) (c .if1 .taken))

@@ -1,10 +1,8 @@
+-- What the numeral says, with the sign that is known.
 use Rattle.words.proofs.NumberLaws.{says-digits}
 use borrow.Author.Needs.{needs}
 use Rattle.words.proofs.numbers.read_digits.Statement.{statement}
 use Rattle.words.proofs.numbers.read_digits.Tie as tie
-use Rattle.words.proofs.numbers.read_digits.Reads as reads
-use Rattle.words.proofs.numbers.read_digits.Lts as lts
-use Rattle.decimal.proofs.read_numeral.Reads as read-numeral-reads
 
 read-numeral-requires : tie.Need-read-numeral-requires
 read-numeral-requires c κs = search needs

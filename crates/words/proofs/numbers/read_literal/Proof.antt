@@ -1,12 +1,9 @@
+-- By the first two bytes.
 use Rattle.words.proofs.NumberLaws.{says-as, literal-short, literal-plain, literal-bare, literal-odd, literal-negated}
 use borrow.Author.Tests.{not-true}
 use borrow.Author.Needs.{needs}
 use Rattle.words.proofs.numbers.read_literal.Statement.{statement}
 use Rattle.words.proofs.numbers.read_literal.Tie as tie
-use Rattle.words.proofs.numbers.read_literal.Reads as reads
-use Rattle.words.proofs.numbers.read_literal.Lts as lts
-use Rattle.words.proofs.numbers.no_number.Reads as no-number-reads
-use Rattle.words.proofs.numbers.read_digits.Reads as read-digits-reads
 
 no-number-requires : tie.Need-no-number-requires
 no-number-requires c κs = search needs

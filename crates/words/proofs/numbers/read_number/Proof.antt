@@ -1,11 +1,8 @@
+-- By the first byte: a plus, a minus, or a digit.
 use Rattle.words.proofs.NumberLaws.{says-as, number-empty, number-plus, number-minus, number-plain}
 use borrow.Author.Needs.{needs}
 use Rattle.words.proofs.numbers.read_number.Statement.{statement}
 use Rattle.words.proofs.numbers.read_number.Tie as tie
-use Rattle.words.proofs.numbers.read_number.Reads as reads
-use Rattle.words.proofs.numbers.read_number.Lts as lts
-use Rattle.words.proofs.numbers.no_number.Reads as no-number-reads
-use Rattle.words.proofs.numbers.read_digits.Reads as read-digits-reads
 
 no-number-requires : tie.Need-no-number-requires
 no-number-requires c κs = search needs

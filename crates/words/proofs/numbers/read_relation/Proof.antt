@@ -1,3 +1,4 @@
+-- By the length, then the bytes.
 use mathlib.Core.Path.{sym, ap, _∙_}
 use mathlib.Core.Bool.{Bool, cond}
 use Prim.Native.Nat.{ℕ}
@@ -8,8 +9,6 @@ use Rattle.words.proofs.NumberLaws.{relation-one, relation-two, relatio
 use borrow.Author.Needs.{needs}
 use Rattle.words.proofs.numbers.read_relation.Statement.{statement}
 use Rattle.words.proofs.numbers.read_relation.Tie as tie
-use Rattle.words.proofs.numbers.read_relation.Reads as reads
-use Rattle.words.proofs.numbers.read_relation.Lts as lts
 
 shared-slice-read-if2 : tie.Need-shared-slice-read-if2
 shared-slice-read-if2 c = search needs

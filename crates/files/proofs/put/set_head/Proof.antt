@@ -1,0 +1,52 @@
+-- A block that was begun, with the head's numbers, sealed.
+use mathlib.Core.Path.{_≡_, sym, ap, subst, _∙_}
+use mathlib.Core.List.{List}
+use Prim.Native.Nat.{ℕ}
+use Rattle.blocks.specs.Fields.{put16, put32}
+use Rattle.blocks.specs.Check.{checkOf}
+use Rattle.files.specs.Structs.{HeadOf}
+use Rattle.files.proofs.PutLaws.{head-put}
+use borrow.Author.Needs.{needs}
+use Rattle.files.proofs.put.set_head.Statement.{statement}
+use Rattle.files.proofs.put.set_head.Tie as tie
+
+begin-requires : tie.Need-begin-requires
+begin-requires c κs = search needs
+
+set16-requires : tie.Need-set16-requires
+set16-requires c κs = search needs
+
+set16-requires-2 : tie.Need-set16-requires-2
+set16-requires-2 c κs = search needs
+
+set16-requires-3 : tie.Need-set16-requires-3
+set16-requires-3 c κs = search needs
+
+set32-requires : tie.Need-set32-requires
+set32-requires c κs = search needs
+
+seal-requires : tie.Need-seal-requires
+seal-requires c κs = search needs
+
+same-length : tie.Need-same-length
+same-length c = search needs
+
+returns : tie.Need-returns
+returns c =
+    let a = c .before .before .before .before .before .before .before .before .before .before .before .before .before .before .before .before .before .before .before .before .before .before .before .before .before .args in
+    let e4 = c .before .before .before .before .before .before .set32 .ensures ∙ ap (λ (b : List ℕ). put32 b 16 (a .points)) (c .before .before .before .before .before .before .before .before .before .before .set163 .ensures ∙ ap (λ (b : List ℕ). put16 b 12 (a .n)) (c .before .before .before .before .before .before .before .before .before .before .before .before .before .before .set162 .ensures ∙ ap (λ (b : List ℕ). put16 b 10 (a .objectives)) (c .before .before .before .before .before .before .before .before .before .before .before .before .before .before .before .before .before .before .set16 .ensures))) in
+    let e = c .before .before .seal .ensures ∙ ap (λ (b : List ℕ). put16 b 0 (checkOf b)) e4 in
+    subst (HeadOf (a .objectives) (a .n) (a .points)) (sym e) (head-put (c .before .before .before .before .before .before .before .before .before .before .before .before .before .before .before .before .before .before .before .before .before .before .begin .last .0) (c .before .before .before .before .before .before .before .before .before .before .before .before .before .before .before .before .before .before .before .before .before .before .begin .ensures) (a .objectives) (a .n) (a .points))
+
+pub set-head-spec : {M : Type 1} → statement M
+set-head-spec =
+    tie.close
+    (tie.spec
+    begin-requires
+    set16-requires
+    set16-requires-2
+    set16-requires-3
+    set32-requires
+    seal-requires
+    same-length
+    returns)

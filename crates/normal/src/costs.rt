@@ -1,0 +1,42 @@
+// Objectives in natural numbers: what each variable costs on each side.
+use crate::half_of;
+use instance::Term;
+ghost use mathlib.Core.Path.{_≡_};
+ghost use mathlib.Core.List.{List};
+ghost use Prim.Native.Nat.{ℕ, _+_, _*_, _≤_, _<_};
+ghost use lib.IntN.{natAbs};
+ghost use lib.ListN.{length, getD};
+ghost use Rattle.instance.specs.Limits.{maxTerms, maxVariable, termRoom};
+ghost use Rattle.instance.specs.Parts.{TermsOk};
+ghost use Rattle.instance.specs.Tables.{termAt};
+ghost use Rattle.normal.specs.Costs.{Spread};
+
+// Sets the first `count` numbers of a run to 0.
+fn clear(run: &mut [u64])
+    ensures { λ _. ⌜ ((i : ℕ) → getD (now (run .exit)) i 0 ≡ 0) ⌝ }
+{
+    let mut i: usize = 0;
+    while i < run.len() {
+        run[i] = 0;
+        i += 1;
+    }
+}
+
+// Adds what the terms of an objective give to the sides of their variables, from 0 on.
+pub fn spread(terms: &[i32], first: usize, count: usize, n: usize, sides: &mut [u64])
+    requires { ⌜ termRoom ≤ length (now terms) ⌝ }
+    requires { ⌜ first + count ≤ maxTerms ⌝ }
+    requires { ⌜ TermsOk (now terms) (first + count) ⌝ }
+    requires { ⌜ ((k : ℕ) → k < first + count → natAbs ((termAt (now terms) k) .lit) ≤ n) ⌝ }
+    requires { ⌜ (n ≤ maxVariable) × (n * 2 ≤ length (now sides)) ⌝ }
+    ensures { λ _. ⌜ Spread (now (terms .entry)) first count n (now (sides .entry)) (now (sides .exit)) ⌝ }
+{
+    clear(sides);
+    let mut k: usize = 0;
+    while k < count {
+        let h = half_of(false, Term::at(terms, first + k));
+        let at = h.variable as usize * 2 + (1 - h.off) as usize;
+        sides[at] = sides[at] + h.weight;
+        k += 1;
+    }
+}

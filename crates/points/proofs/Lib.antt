@@ -1,0 +1,6 @@
+-- Laws for the crates above: the order of vectors and dominance (OrderLaws), a front is determined (FrontLaws), lists in lent runs
+-- (ListLaws), and two answers that a contract of a test allows are equal (decides-unique of TestLaws).
+pub mod OrderLaws
+pub mod FrontLaws
+pub mod TestLaws
+pub mod ListLaws

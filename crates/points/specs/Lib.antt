@@ -1,0 +1,6 @@
+-- Points. Read Limits, Vectors, then Fronts (the front of any candidates) and Lists (points in lent runs, and when a list is proper).
+pub mod Limits
+pub mod Vectors
+pub mod Fronts
+pub mod Lists
+pub mod Structs
