@@ -20,3 +20,19 @@ pub record Spread (ts : List ℤ) (first k n : ℕ) (sides₀ sides : List ℕ) 
   pub same : length sides ≡ length sides₀
   pub sums : (a : ℕ) → sidesSum n sides a ≡ givesAll (halvesAt ts first k false) a
   pub small : (i : ℕ) → getD sides i 0 ≤ k * maxCoef
+
+-- What a variable costs on its dear side more than on the other, and which side is dear: 1 if that costs more.
+abbrev pub gapOf : ℕ → ℕ → ℕ
+gapOf zero-side one-side = cond (ltb zero-side one-side) (one-side - zero-side) (zero-side - one-side)
+
+abbrev pub dearOf : ℕ → ℕ → ℕ
+dearOf zero-side one-side = cond (ltb zero-side one-side) 1 0
+
+-- The first j variables of an objective, whose numbers begin at o, have the gaps and dear sides of the run of sides; below o all is as found.
+pub record Settled (o j : ℕ) (sides d₀ d dear₀ dear : List ℕ) : Type 0 where
+  pub gaps-same : length d ≡ length d₀
+  pub dear-same : length dear ≡ length dear₀
+  pub gaps : (v : ℕ) → v < j → getD d (o + v) 0 ≡ gapOf (getD sides (v * 2) 0) (getD sides (v * 2 + 1) 0)
+  pub dears : (v : ℕ) → v < j → getD dear (o + v) 0 ≡ dearOf (getD sides (v * 2) 0) (getD sides (v * 2 + 1) 0)
+  pub gaps-below : (i : ℕ) → i < o → getD d i 0 ≡ getD d₀ i 0
+  pub dears-below : (i : ℕ) → i < o → getD dear i 0 ≡ getD dear₀ i 0

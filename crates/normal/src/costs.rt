@@ -9,7 +9,7 @@ ghost use lib.ListN.{length, getD};
 ghost use Rattle.instance.specs.Limits.{maxTerms, maxVariable, termRoom};
 ghost use Rattle.instance.specs.Parts.{TermsOk};
 ghost use Rattle.instance.specs.Tables.{termAt};
-ghost use Rattle.normal.specs.Costs.{Spread};
+ghost use Rattle.normal.specs.Costs.{gapOf, dearOf, Spread, Settled};
 
 // Sets the first `count` numbers of a run to 0.
 fn clear(run: &mut [u64])
@@ -38,5 +38,41 @@ pub fn spread(terms: &[i32], first: usize, count: usize, n: usize, sides: &mut [
         let at = h.variable as usize * 2 + (1 - h.off) as usize;
         sides[at] = sides[at] + h.weight;
         k += 1;
+    }
+}
+
+// What the dear side costs more than the other.
+fn gap_of(zero: u64, one: u64) -> u64
+    ensures { λ r. ⌜ r ≡ gapOf zero one ⌝ }
+{
+    if zero < one {
+        return one - zero;
+    }
+    zero - one
+}
+
+// The dear side.
+fn dear_of(zero: u64, one: u64) -> u8
+    ensures { λ r. ⌜ r ≡ dearOf zero one ⌝ }
+{
+    if zero < one {
+        return 1;
+    }
+    0
+}
+
+// Stores the gap and the dear side of each variable, from place o on.
+pub fn settle(n: usize, sides: &[u64], o: usize, gaps: &mut [u64], dears: &mut [u8])
+    requires { ⌜ (n ≤ maxVariable) × (n * 2 ≤ length (now sides)) ⌝ }
+    requires { ⌜ (o + n ≤ length (now gaps)) × (o + n ≤ length (now dears)) ⌝ }
+    ensures { λ _. ⌜ Settled o n (now (sides .entry)) (now (gaps .entry)) (now (gaps .exit)) (now (dears .entry)) (now (dears .exit)) ⌝ }
+{
+    let mut v: usize = 0;
+    while v < n {
+        let zero = sides[v * 2];
+        let one = sides[v * 2 + 1];
+        gaps[o + v] = gap_of(zero, one);
+        dears[o + v] = dear_of(zero, one);
+        v += 1;
     }
 }

@@ -1,4 +1,4 @@
--- Laws of reading.
+-- Laws of reading. AnswerLaws (answers are determined) and VerdictLaws are for readers; the others serve the proofs of the functions, from the leaves up.
 pub mod CellLaws
 pub mod ParseLaws
 pub mod StepLaws
