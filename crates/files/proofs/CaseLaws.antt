@@ -2,18 +2,18 @@
 use mathlib.Core.Path.{_≡_, refl, sym, ap, subst, _∙_}
 use mathlib.Core.Bool.{Bool, true, false, _&&_}
 use mathlib.Core.List.{List, [], _∷_, _++_}
-use Prim.Native.Nat.{ℕ, zero, suc, _+_, _-_, _*_, _≤_, _<_}
+use Prim.Native.Nat.{ℕ, zero, suc, _+_, _-_, _*_}
 use native.Mathlib.Omega.{arith}
 use lib.Dec.{T, ltb}
 use lib.IntN.{ℤ, pos}
 use lib.ListN.{length, replicate}
 use borrow.Author.Tests.{ltb-true}
-use Rattle.blocks.specs.Fields.{byteAt, u16At, put16, put32, put64}
+use Rattle.blocks.specs.Fields.{u16At, put16, put32, put64}
 use Rattle.blocks.specs.Check.{checkOf, wordSum}
 use Rattle.blocks.proofs.ByteLaws.{Bytes}
-use Rattle.files.specs.Layout.{blockAt, blocksFor, countIn}
+use Rattle.files.specs.Layout.{blockAt, countIn}
 use Rattle.files.specs.Structs.{HeadOf, PointsOf}
-use Rattle.files.specs.Put.{Begun, PointsPut}
+use Rattle.files.specs.Put.{Begun}
 use Rattle.files.specs.Written.{WrittenAs}
 use Rattle.files.specs.declared.write.FileWritten.the-variants.{Done as Wrote}
 use Rattle.files.proofs.PutLaws.{begun, head-put}

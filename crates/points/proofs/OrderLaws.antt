@@ -3,16 +3,15 @@ use mathlib.Core.Path.{_≡_, refl, sym, ap, ap₂, subst, _∙_}
 use mathlib.Core.Logic.{_⊎_, inl, inr, ⊎-elim}
 use mathlib.Core.Bool.{Bool, true, false, cond, _&&_}
 use mathlib.Core.List.{List, [], _∷_, _++_}
-use Prim.Native.Nat.{ℕ, suc, _+_, _≤_, _<_}
-use native.Mathlib.Decide.{decLt}
+use Prim.Native.Nat.{suc, _+_, _≤_, _<_}
 use native.Mathlib.Omega.{arith}
-use borrow.Author.Tests.{lt-ltb, le-ltb, ltb-true, ltb-false, le-leb, lt-leb, leb-true}
+use borrow.Author.Tests.{lt-ltb, le-ltb, ltb-true, ltb-false, le-leb, leb-true}
 use lib.Dec.{T}
 use lib.IntN.{ℤ}
 use lib.ListN.{length}
 use lib.Signed.{ltZ, leZ}
 use Rattle.instance.proofs.SignedLaws.{up, dn, lt-parts, le-parts, same-parts}
-use Rattle.points.specs.Vectors.{leAll, LeAll, Dominates, lex, Lex}
+use Rattle.points.specs.Vectors.{leAll, LeAll, lex, Lex}
 
 -- ---- numbers
 lt-of : (x y : ℤ) → ltZ x y ≡ true → up x + dn y < up y + dn x

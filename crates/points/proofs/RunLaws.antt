@@ -1,12 +1,12 @@
 -- Fronts that stand in runs: the front of candidates and what a proper list asks of its order are one.
-use mathlib.Core.Path.{_≡_, refl, sym, ap, subst, _∙_}
-use mathlib.Core.List.{List, [], _∷_, List·Memᴰ}
-use Prim.Native.Nat.{ℕ, zero, suc, _+_, _-_, _≤_, _<_}
+use mathlib.Core.Path.{_≡_, subst}
+use mathlib.Core.List.{List, List·Memᴰ}
+use Prim.Native.Nat.{ℕ, zero, suc, _+_, _-_, _<_}
 use native.Mathlib.Omega.{arith}
 use lib.IntN.{ℤ}
 use Rattle.instance.specs.Lists.{tabulate}
 use Rattle.instance.proofs.ListLaws.{tabulate-each, tabulate-member}
-use Rattle.points.specs.Vectors.{Lex, Dominates}
+use Rattle.points.specs.Vectors.{Lex}
 use Rattle.points.specs.Fronts.{Candidate, Rising, IsFront}
 use Rattle.points.specs.Lists.{valuesAt, pointAt, RisingAt, NoneDominates}
 use Rattle.points.proofs.FrontLaws.{rising-first, rising-rest}
@@ -32,15 +32,15 @@ module _ (g : ℕ → Candidate) where
   index-rising first zero h = tt
   index-rising first (suc n) h = (
     tabulate-each g (λ (y : Candidate). Lex (g first .vector) (y .vector)) (suc first) n
-    (λ k l.
-    let e : first + 0 ≡ first = omega arith in
-    let d : first + suc k ≡ suc first + k = omega arith in
-    subst (λ (m : ℕ). Lex (g m .vector) (g (suc first + k) .vector)) e (subst (λ (m : ℕ). Lex (g (first + 0) .vector) (g m .vector)) d (h 0 (suc k) (omega arith) (omega arith)))),
+        (λ k l.
+        let e : first + 0 ≡ first = omega arith in
+        let d : first + suc k ≡ suc first + k = omega arith in
+        subst (λ (m : ℕ). Lex (g m .vector) (g (suc first + k) .vector)) e (subst (λ (m : ℕ). Lex (g (first + 0) .vector) (g m .vector)) d (h 0 (suc k) (omega arith) (omega arith)))),
     index-rising (suc first) n
-    (λ i j l m.
-    let e : first + suc i ≡ suc first + i = omega arith in
-    let d : first + suc j ≡ suc first + j = omega arith in
-    subst (λ (k : ℕ). Lex (g k .vector) (g (suc first + j) .vector)) e (subst (λ (k : ℕ). Lex (g (first + suc i) .vector) (g k .vector)) d (h (suc i) (suc j) (omega arith) (omega arith)))),
+        (λ i j l m.
+        let e : first + suc i ≡ suc first + i = omega arith in
+        let d : first + suc j ≡ suc first + j = omega arith in
+        subst (λ (k : ℕ). Lex (g k .vector) (g (suc first + j) .vector)) e (subst (λ (k : ℕ). Lex (g (first + suc i) .vector) (g k .vector)) d (h (suc i) (suc j) (omega arith) (omega arith)))),
   )
 
 -- ---- the points of two runs that are a front rise, and none dominates another

@@ -1,11 +1,10 @@
 -- Block 0 is the head; any other holds the points that are its own.
-use mathlib.Core.Path.{_≡_, refl, sym, ap, subst, _∙_}
+use mathlib.Core.Path.{refl, ap, subst, _∙_}
 use mathlib.Core.List.{List}
-use Prim.Native.Nat.{ℕ, _+_, _-_, _*_, _≤_, _<_}
-use native.Mathlib.Omega.{arith}
+use Prim.Native.Nat.{ℕ, _+_, _-_, _*_}
 use Rattle.instance.specs.Tests.{Decides}
-use Rattle.files.specs.Layout.{blockAt, BlockFits, HeadFits, PointsFit, countIn, pointsOf}
-use Rattle.files.proofs.BlockLaws.{part-length, part-block, fits-head, fits-points}
+use Rattle.files.specs.Layout.{blockAt, HeadFits, PointsFit, countIn}
+use Rattle.files.proofs.BlockLaws.{part-block, fits-head, fits-points}
 use borrow.Author.Needs.{needs}
 use Rattle.files.proofs.layout.block_fits.Statement.{statement}
 use Rattle.files.proofs.layout.block_fits.Tie as tie

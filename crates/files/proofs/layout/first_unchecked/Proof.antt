@@ -1,15 +1,13 @@
 -- Each block is tested. Invariant: the checks of those passed fit. Measure: the blocks left.
-use mathlib.Core.Path.{_≡_, refl, sym, ap, subst, _∙_}
+use mathlib.Core.Path.{refl, subst}
 use mathlib.Core.List.{List}
 use Prim.Native.Nat.{ℕ, _+_, _-_, _*_, _≤_, _<_}
 use native.Mathlib.Omega.{arith}
 use borrow.Author.Count.{below-more}
-use lib.ListN.{length, take, drop}
-use Rattle.instance.proofs.TestLaws.{refused, accepted, holds, fails}
+use Rattle.instance.proofs.TestLaws.{refused, accepted}
 use Rattle.instance.specs.Tests.{Decides}
-use Rattle.files.specs.Structs.{FirstNot}
 use Rattle.blocks.specs.Check.{CheckFits}
-use Rattle.files.specs.Layout.{BlockChecked, blockAt}
+use Rattle.files.specs.Layout.{BlockChecked}
 use Rattle.files.proofs.BlockLaws.{part-length, part-block}
 use Rattle.files.proofs.layout.first_unchecked.Statement.{statement}
 use Rattle.files.proofs.layout.first_unchecked.Tie as tie

@@ -1,7 +1,6 @@
 -- A block that was begun, with its points, sealed.
-use mathlib.Core.Path.{_≡_, sym, ap, subst, _∙_}
-use mathlib.Core.List.{List}
-use Prim.Native.Nat.{ℕ, _+_, _-_, _*_}
+use mathlib.Core.Path.{sym, subst}
+use Prim.Native.Nat.{ℕ, _-_, _*_}
 use Rattle.files.specs.Layout.{countIn}
 use Rattle.files.specs.Structs.{PointsOf}
 use Rattle.files.specs.Put.{PointsPut}

@@ -1,7 +1,7 @@
 -- Each refusal is tried in its order; where none holds, the points are decoded into the runs.
 use mathlib.Core.Path.{_≡_, refl, sym, ap, subst, _∙_}
-use mathlib.Core.List.{List, _++_}
-use Prim.Native.Nat.{ℕ, _+_, _-_, _*_, _/_, _%_, _≤_, _<_}
+use mathlib.Core.List.{_++_}
+use Prim.Native.Nat.{ℕ, _+_, _-_, _*_, _≤_}
 use native.Mathlib.Omega.{arith}
 use borrow.Author.Needs.{needs}
 use lib.ListN.{length, drop}
@@ -10,10 +10,9 @@ use Rattle.instance.proofs.TestLaws.{refused, accepted}
 use Rattle.points.specs.Lists.{Proper}
 use Rattle.files.specs.declared.read.FileHead.{FileHead}
 use Rattle.files.specs.declared.read.FileRead.the-variants.{Done}
-use Rattle.files.specs.Layout.{blockAt, blocksFor, pointsOf, valuesIn, modelsIn}
-use Rattle.files.specs.Structs.{headOf}
-use Rattle.files.specs.Taken.{LengthFits, AllChecked, Sound, ProperList, points, blocksIn, answerOf}
-use Rattle.files.proofs.ReadLaws.{sound-room, sound-total}
+use Rattle.files.specs.Layout.{blocksFor, valuesIn, modelsIn}
+use Rattle.files.specs.Taken.{LengthFits, AllChecked, Sound, ProperList, points, answerOf}
+use Rattle.files.proofs.ReadLaws.{sound-room}
 use Rattle.files.proofs.read.read_file.Statement.{statement}
 use Rattle.files.proofs.read.read_file.Tie as tie
 

@@ -1,14 +1,12 @@
 -- The list is tried, then the room; the head and the point blocks make up its file.
-use mathlib.Core.Path.{_≡_, refl, sym, ap, subst, _∙_}
-use mathlib.Core.List.{List}
-use Prim.Native.Nat.{ℕ, _+_, _-_, _*_, _≤_, _<_}
+use mathlib.Core.Path.{_≡_, refl, sym, ap, _∙_}
+use Prim.Native.Nat.{ℕ, _-_, _*_}
 use native.Mathlib.Omega.{arith}
 use borrow.Author.Needs.{needs}
 use lib.ListN.{length, take, drop, length-append, length-drop}
 use lib.Seq.{length-take-le}
 use Rattle.instance.proofs.TestLaws.{refused, accepted}
 use Rattle.points.specs.Lists.{Proper}
-use Rattle.files.specs.Layout.{blocksFor}
 use Rattle.files.proofs.WriteLaws.{written-all}
 use Rattle.files.proofs.write.write_file.Statement.{statement}
 use Rattle.files.proofs.write.write_file.Tie as tie
