@@ -51,11 +51,14 @@ points-fit-requires c κs = search needs
 
 returns-2 : tie.Need-returns-2
 returns-2 c =
-    let s = c .before .before .before .before .before in
+    let p2 = c .before .before in
+    let p3 = p2 .before in
+    let p5 = p3 .before .before in
+    let s = p5 in
     let a = s .args in
     let e = part-block (a .file .now) (a .b) (a .b * 512) (a .b * 512 + 512) refl refl in
-    let n = c .before .before .count-in .ensures ∙ ap (λ (p : ℕ). countIn p (a .b)) (s .pre .1 .1 .1) in
-    fits-points (a .file .now) (a .blocks) (a .b) (c .before .before .before .if1 .left) (subst (λ (k : ℕ). Decides (c .points-fit .result) (PointsFit (blockAt (a .file .now) (a .b)) (a .b) k)) n (subst (λ (p : List ℕ). Decides (c .points-fit .result) (PointsFit p (a .b) (c .before .before .count-in .result))) e (c .points-fit .ensures)))
+    let n = p2 .count-in .ensures ∙ ap (λ (p : ℕ). countIn p (a .b)) (s .pre .1 .1 .1) in
+    fits-points (a .file .now) (a .blocks) (a .b) (p3 .if1 .left) (subst (λ (k : ℕ). Decides (c .points-fit .result) (PointsFit (blockAt (a .file .now) (a .b)) (a .b) k)) n (subst (λ (p : List ℕ). Decides (c .points-fit .result) (PointsFit p (a .b) (p2 .count-in .result))) e (c .points-fit .ensures)))
 
 pub block-fits-spec : {M : Type 1} → statement M
 block-fits-spec =

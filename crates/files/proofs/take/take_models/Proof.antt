@@ -39,7 +39,8 @@ loop-less c = omega arith
 
 loop-again : tie.Need-loop-again Inv-loop μ-loop
 loop-again c =
-    let l = c .before .before in
+    let p2 = c .before .before in
+    let l = p2 in
     let a = l .before .before .before .args in
     (omega arith, length-set (l .loop .models) (l .loop .k) _ ∙ l .loop .inv .1, ap (λ (z : ℕ). set (l .loop .models) (l .loop .k) z) (c .model-in .ensures) ∙ fill-next (modelIn (a .file .now)) (a .models .now) (l .loop .models) (l .loop .k) (omega arith) (l .loop .inv .2))
 
