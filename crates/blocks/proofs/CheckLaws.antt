@@ -1,10 +1,10 @@
 -- The Internet checksum: adding words one by one with the carry folded in gives the folded sum of all words.
 use mathlib.Core.Path.{_≡_, refl, sym, ap, subst, _∙_}
 use mathlib.Core.List.{List, [], _∷_}
-use Prim.Native.Nat.{ℕ, zero, suc, _+_, _-_, _*_, _/_, _%_, _^_, _≤_, _<_, zero-le}
+use Prim.Native.Nat.{ℕ, suc, _+_, _-_, _*_, _/_, _%_, _≤_, _<_}
 use native.Mathlib.Decide.{decLt}
 use native.Mathlib.Omega.{arith}
-use lib.ListN.{length, getD, set, drop, length-drop}
+use lib.ListN.{length, set, drop, length-drop}
 use lib.Seq.{drop-cons, getD-drop, drop-length, drop-set-lt}
 use Rattle.blocks.specs.Fields.{byteAt, u16At, put16}
 use Rattle.blocks.specs.Check.{wordSum, fold, onesSum, checksum, checkOf}

@@ -1,16 +1,16 @@
 -- Two answers that a contract allows are equal, and so is what they leave. Memory holds bytes: that is what `Bytes` says.
-use mathlib.Core.Path.{_≡_, refl, sym, ap, subst, _∙_}
-use mathlib.Core.List.{List, _++_}
-use Prim.Native.Nat.{ℕ, _+_, _-_, _*_, _≤_, _<_}
+use mathlib.Core.Path.{_≡_, refl, sym, ap, _∙_}
+use mathlib.Core.List.{List}
+use Prim.Native.Nat.{ℕ, _+_, _-_, _<_}
 use native.Mathlib.Decide.{decLt}
 use native.Mathlib.Omega.{arith}
 use lib.IntN.{ℤ}
-use lib.ListN.{length, getD, drop}
+use lib.ListN.{length, getD}
 use lib.Seq.{ext-getD, getD-drop}
 use Rattle.blocks.specs.Fields.{byteAt}
 use Rattle.blocks.proofs.ByteLaws.{Bytes}
 use Rattle.files.specs.Written.{bytesFor, WrittenAs, WrittenAll}
-use Rattle.files.specs.Taken.{ReadAs, Answer, answerOf, LowestNot, LengthFits, AllChecked, AllLaid}
+use Rattle.files.specs.Taken.{ReadAs, Answer, LowestNot}
 use Rattle.files.specs.declared.write.FileWritten.{FileWritten}
 use Rattle.files.specs.declared.write.FileWritten.the-variants.{Done as Wrote, NotProper as Improper, ShortOutput as NoRoom}
 use Rattle.files.specs.declared.read.FileHead.{FileHead}

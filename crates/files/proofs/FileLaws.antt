@@ -1,16 +1,16 @@
 -- Files of one list: their blocks are equal, and a file is the file of its list whatever stands after it.
-use mathlib.Core.Path.{_≡_, refl, sym, ap, ap₂, subst, _∙_}
+use mathlib.Core.Path.{_≡_, sym, ap, ap₂, subst, _∙_}
 use mathlib.Core.List.{List}
-use Prim.Native.Nat.{ℕ, zero, suc, _+_, _-_, _*_, _/_, _%_, _^_, _≤_, _<_, min}
+use Prim.Native.Nat.{ℕ, zero, suc, _+_, _-_, _*_, _/_, _%_, _≤_, _<_}
 use native.Mathlib.Decide.{decLt}
 use native.Mathlib.Omega.{arith}
-use lib.IntN.{ℤ, pos}
-use lib.ListN.{length, getD, take, drop, length-take, List·getD-eq-default}
+use lib.IntN.{ℤ}
+use lib.ListN.{length, take, drop, length-take, List·getD-eq-default}
 use lib.Seq.{getD-take, length-take-le}
 use Rattle.blocks.specs.Fields.{byteAt, u64At, signedOf, bitsOf}
 use Rattle.blocks.specs.Check.{CheckFits}
 use Rattle.blocks.proofs.ByteLaws.{Bytes, u64-small, bits-signed}
-use Rattle.files.specs.Layout.{blockAt, blocksFor, countIn, placeOf, pointsOf, objectivesOf, variablesOf, valueIn, modelIn, HeadFits, PointsFit, BlockFits, BlockChecked, FileOf}
+use Rattle.files.specs.Layout.{blockAt, blocksFor, countIn, placeOf, pointsOf, objectivesOf, variablesOf, valueIn, modelIn, HeadFits, PointsFit, BlockFits, FileOf}
 use Rattle.files.specs.Written.{bytesFor}
 use Rattle.files.proofs.BlockLaws.{block-length}
 use Rattle.files.proofs.WriteLaws.{block-byte, block-same}

@@ -1,10 +1,10 @@
 -- Fields that a store elsewhere leaves as they are.
-use mathlib.Core.Path.{_≡_, refl, sym, ap, _∙_}
+use mathlib.Core.Path.{_≡_}
 use mathlib.Core.List.{List}
-use Prim.Native.Nat.{ℕ, _+_, _*_, _≤_, _<_}
+use Prim.Native.Nat.{ℕ, _+_, _≤_}
 use native.Mathlib.Omega.{arith}
 use Rattle.blocks.specs.Fields.{byteAt, u16At, u32At, u64At, put16, put32, put64}
-use Rattle.blocks.proofs.FieldLaws.{u16-agree, u32-agree, u64-agree, put16-before, put16-after, put32-before, put32-after, put64-before, put64-after}
+use Rattle.blocks.proofs.FieldLaws.{u16-agree, u32-agree, u64-agree, put16-before, put16-after, put32-before, put64-before}
 
 module _ (bs : List ℕ) (at x f : ℕ) where
   pub u16-put16-before : f + 2 ≤ at → u16At (put16 bs at x) f ≡ u16At bs f

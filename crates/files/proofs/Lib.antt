@@ -12,3 +12,4 @@ pub mod UniqueLaws
 pub mod FileLaws
 pub mod AnswerLaws
 pub mod RoundLaws
+pub mod CaseLaws

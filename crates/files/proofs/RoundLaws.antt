@@ -1,19 +1,18 @@
 -- There and back: reading what writing wrote gives the same list, and writing what reading accepted gives the same bytes.
 use mathlib.Core.Path.{_≡_, refl, sym, ap, subst, _∙_}
 use mathlib.Core.List.{List, _++_}
-use Prim.Native.Nat.{ℕ, zero, suc, _+_, _-_, _*_, _/_, _%_, _≤_, _<_}
+use Prim.Native.Nat.{ℕ, _+_, _-_, _*_, _≤_, _<_}
 use native.Mathlib.Omega.{arith}
 use lib.IntN.{ℤ, pos}
-use lib.ListN.{length, getD, take, drop, length-append, length-drop, List·getD-append}
+use lib.ListN.{length, getD, take, drop, List·getD-append}
 use lib.Seq.{length-take-le, ext-getD, getD-take}
 use Rattle.instance.proofs.ListLaws.{tabulate-length, tabulate-getD}
 use Rattle.points.specs.Lists.{Proper}
 use Rattle.points.proofs.ListLaws.{proper-same, proper-append}
-use Rattle.blocks.specs.Fields.{byteAt}
 use Rattle.blocks.proofs.ByteLaws.{Bytes}
-use Rattle.files.specs.Layout.{blockAt, blocksFor, objectivesOf, variablesOf, pointsOf, valueIn, modelIn, valuesIn, modelsIn, BlockFits, FileOf}
-use Rattle.files.specs.Written.{bytesFor, WrittenAs, WrittenAll}
-use Rattle.files.specs.Taken.{ReadAs, ReadAll, Answer, answerOf, Sound, LengthFits, ProperList, Room, blocksIn, points}
+use Rattle.files.specs.Layout.{blockAt, blocksFor, objectivesOf, variablesOf, valueIn, modelIn, valuesIn, modelsIn, BlockFits, FileOf}
+use Rattle.files.specs.Written.{bytesFor, WrittenAs}
+use Rattle.files.specs.Taken.{ReadAs, ReadAll, Answer, answerOf, Sound, ProperList, Room, blocksIn, points}
 use Rattle.files.specs.declared.write.FileWritten.{FileWritten}
 use Rattle.files.specs.declared.write.FileWritten.the-variants.{Done as Wrote, NotProper as Improper, ShortOutput as NoRoom}
 use Rattle.files.specs.declared.read.FileHead.{FileHead}

@@ -1,17 +1,16 @@
 -- The file of a list is determined: two files of one list have the same bytes.
-use mathlib.Core.Path.{_≡_, refl, sym, ap, subst, _∙_}
-use mathlib.Core.List.{List, [], _∷_}
-use Prim.Native.Nat.{ℕ, zero, suc, _+_, _-_, _*_, _/_, _%_, _^_, _≤_, _<_, min}
+use mathlib.Core.Path.{_≡_, sym, ap, _∙_}
+use mathlib.Core.List.{List, _∷_}
+use Prim.Native.Nat.{ℕ, _+_, _-_, _*_, _/_, _%_, _≤_, _<_}
 use native.Mathlib.Decide.{decLt}
 use native.Mathlib.Omega.{arith}
-use lib.IntN.{ℤ, pos}
-use lib.ListN.{length, getD, take, drop, length-drop}
-use lib.Seq.{ext-getD, getD-drop, getD-take}
-use Rattle.blocks.specs.Fields.{byteAt, u16At, u32At, u64At, signedOf, bitsOf}
-use Rattle.blocks.specs.Check.{checksum, checkOf, CheckFits}
+use lib.ListN.{length, drop, length-drop}
+use lib.Seq.{ext-getD, getD-drop}
+use Rattle.blocks.specs.Fields.{byteAt, u16At, u32At, u64At}
+use Rattle.blocks.specs.Check.{checksum, CheckFits}
 use Rattle.blocks.proofs.FieldLaws.{Agree}
-use Rattle.blocks.proofs.ByteLaws.{Bytes, u16-bytes, u32-bytes, u64-bytes, u64-small, bits-signed}
-use Rattle.files.specs.Layout.{blockAt, blocksFor, countIn, placeOf, pointsOf, objectivesOf, variablesOf, valueIn, modelIn, HeadFits, PointsFit, FileOf}
+use Rattle.blocks.proofs.ByteLaws.{Bytes, u16-bytes, u32-bytes, u64-bytes}
+use Rattle.files.specs.Layout.{pointsOf, objectivesOf, variablesOf, HeadFits, PointsFit}
 
 -- ---- one block
 -- A byte of a field that agrees.

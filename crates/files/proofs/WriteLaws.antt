@@ -1,18 +1,17 @@
 -- What writing leaves, block after block: the blocks written stand in their places and make up the file of the list.
 use mathlib.Core.Path.{_≡_, refl, sym, ap, subst, _∙_}
 use mathlib.Core.List.{List, _++_}
-use Prim.Native.Nat.{ℕ, zero, suc, _+_, _-_, _*_, _/_, _%_, _^_, _≤_, _<_, min}
+use Prim.Native.Nat.{ℕ, zero, suc, _+_, _-_, _*_, _/_, _%_, _≤_, _<_}
 use native.Mathlib.Decide.{decLt}
 use native.Mathlib.Omega.{arith}
 use borrow.Rule.Slice.PartMut.{putMid, same-len-mid, take-put, drop-put}
-use lib.IntN.{ℤ, pos, natAbs}
+use lib.IntN.{ℤ, pos}
 use lib.ListN.{length, getD, take, drop, length-drop, length-append}
 use lib.Seq.{length-take-le, take-at, drop-at, drop-drop, getD-take, getD-drop, ext-getD}
 use Rattle.points.specs.Lists.{Proper}
-use Rattle.blocks.specs.Fields.{byteAt, u64At, signedOf, bitsOf}
-use Rattle.blocks.specs.Check.{CheckFits}
+use Rattle.blocks.specs.Fields.{byteAt, signedOf, bitsOf}
 use Rattle.blocks.proofs.ByteLaws.{signed-bits}
-use Rattle.files.specs.Layout.{blockAt, blocksFor, countIn, placeOf, pointsOf, valueIn, modelIn, HeadFits, PointsFit, BlockFits, BlockChecked, FileOf}
+use Rattle.files.specs.Layout.{blockAt, blocksFor, countIn, valueIn, PointsFit, BlockFits, BlockChecked, FileOf}
 use Rattle.files.specs.Structs.{HeadOf, PointIn, PointsOf}
 use Rattle.files.specs.Put.{BlocksPut}
 use Rattle.files.specs.Written.{bytesFor, WrittenAll}

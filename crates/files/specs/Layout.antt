@@ -1,9 +1,9 @@
 -- Document 01, 'Front file, form 1': what a file means, block by block. Numbers are big-endian.
 use mathlib.Core.Path.{_≡_}
 use mathlib.Core.List.{List}
-use Prim.Native.Nat.{ℕ, zero, suc, _+_, _-_, _*_, _/_, _%_, _≤_, _<_, min}
+use Prim.Native.Nat.{ℕ, zero, suc, _+_, _-_, _*_, _/_, _%_, _<_, min}
 use lib.IntN.{ℤ, pos}
-use lib.ListN.{getD, length, take, drop}
+use lib.ListN.{getD, take, drop}
 use Rattle.instance.specs.Lists.{tabulate}
 use Rattle.blocks.specs.Fields.{blockLen, u16At, u32At, u64At, signedOf, ZeroBytes}
 use Rattle.blocks.specs.Check.{CheckFits}

@@ -3,7 +3,7 @@ use mathlib.Core.Path.{_≡_}
 use mathlib.Core.List.{List}
 use Prim.Native.Nat.{ℕ, _+_, _*_, _≤_, _<_}
 use lib.IntN.{ℤ, pos}
-use lib.ListN.{getD, length}
+use lib.ListN.{getD}
 use Rattle.points.specs.Limits.{maxPoints, pointValues}
 use Rattle.blocks.specs.Fields.{u64At, bitsOf}
 use Rattle.blocks.specs.Check.{CheckFits}

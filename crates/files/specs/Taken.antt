@@ -8,7 +8,6 @@ use Rattle.points.specs.Lists.{Proper}
 use Rattle.blocks.specs.Fields.{blockLen}
 use Rattle.files.specs.Limits.{maxFile}
 use Rattle.files.specs.Layout.{blockAt, objectivesOf, variablesOf, pointsOf, valuesIn, modelsIn, BlockChecked, BlockFits}
-use Rattle.files.specs.declared.read.FileHead.{FileHead}
 use Rattle.files.specs.declared.read.FileRead.{FileRead}
 use Rattle.files.specs.declared.read.FileRead.the-variants.{Done, BadLength, BadCheck, BadLayout, NotProper, ShortOutput}
 

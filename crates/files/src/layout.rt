@@ -39,22 +39,22 @@ fn head_fits(head: &[u8], blocks: usize) -> bool
     requires { ⌜ length (now head) ≡ blockLen ⌝ }
     ensures { λ r. ⌜ Decides r (HeadFits (now (head .entry)) blocks) ⌝ }
 {
-    if get16(head, 2) != File::HEAD {
+    if get16(head, File::KIND_AT) != File::HEAD {
         return false;
     }
-    if get32(head, 4) != 0 {
+    if get32(head, File::NUMBER_AT) != 0 {
         return false;
     }
-    if get16(head, 8) != File::FORM {
+    if get16(head, File::FORM_AT) != File::FORM {
         return false;
     }
-    if get16(head, 14) != 0 {
+    if get16(head, File::SPARE_AT) != 0 {
         return false;
     }
     if !zero_from(head, File::HEAD_END) {
         return false;
     }
-    blocks_for(get32(head, 16) as usize) == blocks
+    blocks_for(get32(head, File::POINTS_AT) as usize) == blocks
 }
 
 // Whether a point block has number b and zeros after so many points.
@@ -63,10 +63,10 @@ fn points_fit(block: &[u8], b: usize, count: usize) -> bool
     requires { ⌜ count ≤ 12 ⌝ }
     ensures { λ r. ⌜ Decides r (PointsFit (now (block .entry)) b count) ⌝ }
 {
-    if get16(block, 2) != File::POINTS {
+    if get16(block, File::KIND_AT) != File::POINTS {
         return false;
     }
-    if get32(block, 4) != b as u64 {
+    if get32(block, File::NUMBER_AT) != b as u64 {
         return false;
     }
     zero_from(block, File::HEAD_LEN + count * File::POINT_LEN)

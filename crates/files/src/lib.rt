@@ -6,7 +6,8 @@
 //
 // The caller lends all memory. Read specs/Layout.antt (a file's meaning, block by block), then
 // specs/Written.antt and specs/Taken.antt (the contracts).
-// Laws: proofs/AnswerLaws.antt (answers are determined) and proofs/RoundLaws.antt (reading what was written, writing what was read).
+// Laws: proofs/AnswerLaws.antt (answers are determined), proofs/RoundLaws.antt (reading what was written, writing what was read),
+// proofs/CaseLaws.antt (case P11).
 mod sizes; // sizes.rt: the sizes of a file and where things stand
 mod put; // put.rt: a list as blocks
 mod layout; // layout.rt: whether blocks are as they should be

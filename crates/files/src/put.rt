@@ -27,8 +27,8 @@ fn begin(block: &mut [u8], kind: u64, number: u64)
     ensures { λ _. ⌜ Begun kind number (now (block .exit)) ⌝ }
 {
     clear(block);
-    set16(block, 2, kind);
-    set32(block, 4, number);
+    set16(block, File::KIND_AT, kind);
+    set32(block, File::NUMBER_AT, number);
 }
 
 // Writes the head.
@@ -40,10 +40,10 @@ pub fn set_head(block: &mut [u8], objectives: u64, n: u64, points: u64)
     ensures { λ _. ⌜ HeadOf objectives n points (now (block .exit)) ⌝ }
 {
     begin(block, File::HEAD, 0);
-    set16(block, 8, File::FORM);
-    set16(block, 10, objectives);
-    set16(block, 12, n);
-    set32(block, 16, points);
+    set16(block, File::FORM_AT, File::FORM);
+    set16(block, File::OBJECTIVES_AT, objectives);
+    set16(block, File::VARIABLES_AT, n);
+    set32(block, File::POINTS_AT, points);
     seal(block);
 }
 
@@ -58,10 +58,10 @@ fn set_point(block: &mut [u8], j: usize, values: &[i64], models: &[u64], k: usiz
     let at = File::HEAD_LEN + j * File::POINT_LEN;
     let from = k * Point::VALUES;
     set_signed(block, at, values[from]);
-    set_signed(block, at + 8, values[from + 1]);
-    set_signed(block, at + 16, values[from + 2]);
-    set_signed(block, at + 24, values[from + 3]);
-    set64(block, at + 32, models[k]);
+    set_signed(block, at + File::SECOND_AT, values[from + 1]);
+    set_signed(block, at + File::THIRD_AT, values[from + 2]);
+    set_signed(block, at + File::FOURTH_AT, values[from + 3]);
+    set64(block, at + File::MODEL_AT, models[k]);
 }
 
 // Writes `count` points of the runs, from `first` on, into a block that was begun.

@@ -42,9 +42,9 @@ fn head_of(file: &[u8]) -> FileHead
     ensures { λ r. ⌜ r ≡ headOf (blockAt (now (file .entry)) 0) ⌝ }
 {
     let head = &file[..Block::LEN];
-    let objectives = get16(head, 10);
-    let n = get16(head, 12);
-    let points = get32(head, 16);
+    let objectives = get16(head, File::OBJECTIVES_AT);
+    let n = get16(head, File::VARIABLES_AT);
+    let points = get32(head, File::POINTS_AT);
     FileHead {
         objectives,
         n,
@@ -61,8 +61,8 @@ fn is_proper_list(file: &[u8], objectives: u64, n: u64, points: u64) -> bool
         return false;
     }
     let count = points as usize;
-    let mut values = [0i64; 4096];
-    let mut models = [0u64; 1024];
+    let mut values = [0i64; File::VALUES_ROOM];
+    let mut models = [0u64; File::MODELS_ROOM];
     take_values(file, count, &mut values);
     take_models(file, count, &mut models);
     is_proper(objectives, n, points, &values, &models)

@@ -14,28 +14,52 @@ pub struct File {
 }
 
 impl File {
-    // Bytes of a block before what it holds.
-    pub const HEAD_LEN: usize = 8;
-    // Bytes of a point.
-    pub const POINT_LEN: usize = 40;
-    // Points of a block.
-    pub const BLOCK_POINTS: usize = 12;
     // Blocks of a file: the head, and one for each 12 points.
     pub const MAX_BLOCKS: usize = 87;
     // Bytes of a file.
     pub const MAX_LEN: usize = File::MAX_BLOCKS * Block::LEN;
+    // Points of a block.
+    pub const BLOCK_POINTS: usize = 12;
+    // Bytes of a point.
+    pub const POINT_LEN: usize = 40;
+    // Bytes of a number of a point.
+    pub const NUMBER_LEN: usize = 8;
     // Kind 1: a head.
     pub const HEAD: u64 = 1;
     // Kind 2: points.
     pub const POINTS: u64 = 2;
     // Form 1.
     pub const FORM: u64 = 1;
-    // The place of the first byte that is zero in every head.
+    // Places in every block: kind, number, and what it holds.
+    pub const KIND_AT: usize = 2;
+
+    pub const NUMBER_AT: usize = 4;
+
+    pub const HEAD_LEN: usize = 8;
+    // Places in a head: form, objectives, n, two zero bytes, points, and zeros to the end.
+    pub const FORM_AT: usize = 8;
+
+    pub const OBJECTIVES_AT: usize = 10;
+
+    pub const VARIABLES_AT: usize = 12;
+
+    pub const SPARE_AT: usize = 14;
+
+    pub const POINTS_AT: usize = 16;
+
     pub const HEAD_END: usize = 20;
-    // Numbers of the values of all points.
-    pub const VALUES_ROOM: usize = 4_096;
+    // Places in a point, after its first value.
+    pub const SECOND_AT: usize = 8;
+
+    pub const THIRD_AT: usize = 16;
+
+    pub const FOURTH_AT: usize = 24;
+
+    pub const MODEL_AT: usize = 32;
     // Assignments of all points.
-    pub const MODELS_ROOM: usize = 1_024;
+    pub const MODELS_ROOM: usize = Point::MAX_POINTS as usize;
+    // Values of all points.
+    pub const VALUES_ROOM: usize = File::MODELS_ROOM * Point::VALUES;
 }
 
 // Each size of the code, under the name of what it sizes.

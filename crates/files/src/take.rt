@@ -20,7 +20,7 @@ fn value_in(file: &[u8], i: usize) -> i64
     let at = (k / File::BLOCK_POINTS + 1) * Block::LEN;
     let end = at + Block::LEN;
     let place = File::HEAD_LEN + k % File::BLOCK_POINTS * File::POINT_LEN;
-    get_signed(&file[at..end], place + i % Point::VALUES * 8)
+    get_signed(&file[at..end], place + i % Point::VALUES * File::NUMBER_LEN)
 }
 
 // The assignment of point k.
@@ -31,7 +31,7 @@ fn model_in(file: &[u8], k: usize) -> u64
     let at = (k / File::BLOCK_POINTS + 1) * Block::LEN;
     let end = at + Block::LEN;
     let place = File::HEAD_LEN + k % File::BLOCK_POINTS * File::POINT_LEN;
-    get64(&file[at..end], place + 32)
+    get64(&file[at..end], place + File::MODEL_AT)
 }
 
 // Fills the values of so many points; the rest is as found.

@@ -22,7 +22,7 @@ pub objective-cost : (ts : List ℤ) (first count n o : ℕ) {sides₀ sides d�
 objective-cost ts first count n o p s a = ap pos (cost-sides o n s a ∙ p .sums a) ∙ halves-give false (termsAt ts first count) a
 
 -- so the order of costs is the order of values
-module _ {x y : ℤ} {b l c e : ℕ} (p : pos (c + b) ≡ x +ℤ pos l) (q : pos (e + b) ≡ y +ℤ pos l) where
+module _ {x y : ℤ} (b l c e : ℕ) (p : pos (c + b) ≡ x +ℤ pos l) (q : pos (e + b) ≡ y +ℤ pos l) where
   pub cost-le : x ≤ℤ y → c ≤ e
   cost-le h = omega (arith, le-to h, ap up p, ap dn p, ap up q, ap dn q, parts-add x (pos l), parts-add y (pos l))
 

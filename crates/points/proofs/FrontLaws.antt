@@ -4,8 +4,8 @@ use mathlib.Core.Logic.{_⊎_, inl, inr, ⊎-elim}
 use mathlib.Core.List.{List, [], _∷_, List·Memᴰ, List·Memᴰ·head, List·Memᴰ·tail, List·Memᴰ·cases-cons, List·Memᴰ·not-nil}
 use Prim.Native.Nat.{ℕ}
 use lib.IntN.{ℤ}
-use Rattle.points.specs.Vectors.{LeAll, Dominates, Lex}
-use Rattle.points.specs.Fronts.{Candidate, StrictOrder, Covers, Rising, Covered, IsFront}
+use Rattle.points.specs.Vectors.{LeAll, Lex}
+use Rattle.points.specs.Fronts.{Candidate, StrictOrder, Covers, Rising, IsFront}
 use Rattle.points.proofs.OrderLaws.{lex-irrefl, lex-trans, lex-total, leAll-length, leAll-trans, leAll-antisym}
 
 -- ---- Rising

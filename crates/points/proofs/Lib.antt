@@ -1,6 +1,7 @@
 -- Laws for the crates above: the order of vectors and dominance (OrderLaws), a front is determined (FrontLaws), lists in lent runs
--- (ListLaws), and two answers that a contract of a test allows are equal (decides-unique of TestLaws).
+-- (ListLaws), fronts in lent runs (RunLaws), and two answers that a contract of a test allows are equal (decides-unique of TestLaws).
 pub mod OrderLaws
 pub mod FrontLaws
 pub mod TestLaws
 pub mod ListLaws
+pub mod RunLaws

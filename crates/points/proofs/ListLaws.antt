@@ -1,15 +1,13 @@
 -- Lists in lent runs: vectors that rise one by one rise over all, and then to look for dominance among later points is enough.
-use mathlib.Core.Path.{_≡_, refl, sym, ap, ap₂, subst, _∙_}
-use mathlib.Core.Logic.{_⊎_, inl, inr, ⊎-elim}
-use mathlib.Core.Bool.{true, false}
+use mathlib.Core.Path.{_≡_, sym, ap, ap₂, subst, _∙_}
+use mathlib.Core.Bool.{false}
 use mathlib.Core.List.{List, [], _∷_, _++_}
 use Prim.Native.Nat.{ℕ, zero, suc, _+_, _-_, _*_, _^_, _≤_, _<_}
 use native.Mathlib.Decide.{decLt}
-use native.Mathlib.Nat.{eq-or-lt-of-le, le-of-suc-le-suc}
 use native.Mathlib.Omega.{arith}
 use lib.IntN.{ℤ, pos, negsuc, natAbs}
 use lib.ListN.{length, getD, length-append, List·getD-append}
-use Rattle.points.specs.Vectors.{lex, Lex, leAll, LeAll, Dominates}
+use Rattle.points.specs.Vectors.{lex, Lex, leAll}
 use Rattle.points.specs.Limits.{maxValue}
 use Rattle.points.specs.Lists.{valuesAt, modelAt, RisingAt, NoneAfter, Apart, NoneDominates, Proper}
 use Rattle.points.proofs.OrderLaws.{clash, lex-irrefl, lex-trans, leAll-lex}

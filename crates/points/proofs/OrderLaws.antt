@@ -2,17 +2,16 @@
 use mathlib.Core.Path.{_≡_, refl, sym, ap, ap₂, subst, _∙_}
 use mathlib.Core.Logic.{_⊎_, inl, inr, ⊎-elim}
 use mathlib.Core.Bool.{Bool, true, false, cond, _&&_}
-use mathlib.Core.List.{List, [], _∷_}
-use Prim.Native.Nat.{ℕ, suc, _+_, _≤_, _<_}
-use native.Mathlib.Decide.{decLt}
+use mathlib.Core.List.{List, [], _∷_, _++_}
+use Prim.Native.Nat.{suc, _+_, _≤_, _<_}
 use native.Mathlib.Omega.{arith}
-use borrow.Author.Tests.{lt-ltb, le-ltb, ltb-true, ltb-false, le-leb, lt-leb, leb-true}
+use borrow.Author.Tests.{lt-ltb, le-ltb, ltb-true, ltb-false, le-leb, leb-true}
 use lib.Dec.{T}
 use lib.IntN.{ℤ}
 use lib.ListN.{length}
 use lib.Signed.{ltZ, leZ}
 use Rattle.integers.proofs.SignedLaws.{up, dn, lt-parts, le-parts, same-parts}
-use Rattle.points.specs.Vectors.{leAll, LeAll, Dominates, lex, Lex}
+use Rattle.points.specs.Vectors.{leAll, LeAll, lex, Lex}
 
 -- ---- numbers
 lt-of : (x y : ℤ) → ltZ x y ≡ true → up x + dn y < up y + dn x
@@ -166,3 +165,25 @@ leAll-lex (x ∷ xs) (y ∷ ys) h k = by (leAll-lex xs ys (le-tail x y xs ys h))
     by : (Lex ys xs → ⊥) → Compared y x ys xs → ⊥
     by f (less p) = omega (arith, lt-of y x p, le-head x y xs ys h)
     by f (rest e p) = f p
+
+-- ---- the same places after both, as unused values are
+pub leAll-append : (a b z : List ℤ) → length a ≡ length b → leAll (a ++ z) (b ++ z) ≡ leAll a b
+unfolding leAll
+leAll-append [] [] z e = leAll-refl z
+leAll-append [] (y ∷ ys) z e = absurd (omega arith)
+leAll-append (x ∷ xs) [] z e = absurd (omega arith)
+leAll-append (x ∷ xs) (y ∷ ys) z e = ap (λ (t : Bool). leZ x y && t) (leAll-append xs ys z (omega arith))
+
+lex-same : (z : List ℤ) → lex z z ≡ false
+lex-same z = by (lex z z) refl
+  where
+    by : (t : Bool) → lex z z ≡ t → t ≡ false
+    by true e = absurd (lex-irrefl z e)
+    by false e = refl
+
+pub lex-append : (a b z : List ℤ) → length a ≡ length b → lex (a ++ z) (b ++ z) ≡ lex a b
+unfolding lex
+lex-append [] [] z e = lex-same z
+lex-append [] (y ∷ ys) z e = absurd (omega arith)
+lex-append (x ∷ xs) [] z e = absurd (omega arith)
+lex-append (x ∷ xs) (y ∷ ys) z e = ap (λ (t : Bool). cond (ltZ x y) true (cond (ltZ y x) false t)) (lex-append xs ys z (omega arith))

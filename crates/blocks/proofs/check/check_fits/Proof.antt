@@ -1,5 +1,5 @@
 -- The stored number and the computed one are compared.
-use mathlib.Core.Path.{_≡_, sym, _∙_}
+use mathlib.Core.Path.{sym, _∙_}
 use borrow.Author.Tests.{eqb-true, eqb-false}
 use borrow.Author.Needs.{needs}
 use Rattle.blocks.proofs.check.check_fits.Statement.{statement}

@@ -3,7 +3,7 @@
 use mathlib.Core.Path.{_≡_, refl, sym, ap, _∙_}
 use Prim.Native.Nat.{ℕ, _+_, _-_, _%_, _≤_, _<_}
 use native.Mathlib.Omega.{arith}
-use lib.ListN.{length, drop}
+use lib.ListN.{drop}
 use Rattle.blocks.specs.Check.{wordSum, fold, onesSum}
 use Rattle.blocks.proofs.ByteLaws.{Bytes}
 use Rattle.blocks.proofs.CheckLaws.{check-start, check-step, check-end}

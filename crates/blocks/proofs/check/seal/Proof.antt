@@ -1,5 +1,5 @@
 -- The computed check is stored.
-use mathlib.Core.Path.{_≡_, ap, _∙_}
+use mathlib.Core.Path.{ap, _∙_}
 use Rattle.blocks.specs.Fields.{put16}
 use borrow.Author.Needs.{needs}
 use Rattle.blocks.proofs.check.seal.Statement.{statement}

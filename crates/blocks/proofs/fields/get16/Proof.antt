@@ -1,5 +1,4 @@
 -- A byte is below 256, so nothing wraps.
-use Prim.Native.Nat.{ℕ, _+_, _*_, _<_}
 use native.Mathlib.Omega.{arith}
 use Rattle.blocks.specs.Fields.{u16At}
 use borrow.Author.Needs.{needs}

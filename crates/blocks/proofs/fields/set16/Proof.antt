@@ -1,9 +1,8 @@
 -- The two bytes are stored one after the other.
-use mathlib.Core.Path.{_≡_, ap₂, ap, _∙_}
+use mathlib.Core.Path.{ap₂}
 use Prim.Native.Nat.{ℕ, _+_}
 use native.Mathlib.Omega.{arith}
-use mathlib.Core.List.{List}
-use lib.ListN.{length, set, length-set}
+use lib.ListN.{set, length-set}
 use Rattle.blocks.specs.Fields.{put16}
 use borrow.Author.Needs.{needs}
 use Rattle.blocks.proofs.fields.set16.Statement.{statement}

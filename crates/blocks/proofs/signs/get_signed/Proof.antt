@@ -1,6 +1,5 @@
 -- The signed number that the 64 bits stand for.
-use mathlib.Core.Path.{_≡_, ap, _∙_}
-use mir.Facts.{toZ-ofZ}
+use mathlib.Core.Path.{ap, _∙_}
 use Rattle.blocks.specs.Fields.{signedOf}
 use mir.Syntax.{w64}
 use Rattle.integers.proofs.SignedLaws.{result-as}

@@ -1,5 +1,5 @@
 -- The bits of the number are stored.
-use mathlib.Core.Path.{_≡_, ap, _∙_}
+use mathlib.Core.Path.{ap, _∙_}
 use mir.Facts.{toZ-ofZ}
 use Rattle.blocks.specs.Fields.{put64, bitsOf}
 use borrow.Author.Needs.{needs}

@@ -1,6 +1,5 @@
 -- Each byte is compared with 0. Invariant: the bytes passed are 0. Measure: the bytes left.
-use mathlib.Core.Path.{_≡_}
-use Prim.Native.Nat.{ℕ, _-_, _≤_, _<_}
+use Prim.Native.Nat.{_-_, _≤_}
 use native.Mathlib.Omega.{arith}
 use lib.ListN.{length}
 use Rattle.blocks.specs.Fields.{ZeroBytes}

@@ -1,11 +1,10 @@
 -- Block 0 is the head; any other holds the points that are its own.
-use mathlib.Core.Path.{_≡_, refl, sym, ap, subst, _∙_}
+use mathlib.Core.Path.{refl, ap, subst, _∙_}
 use mathlib.Core.List.{List}
-use Prim.Native.Nat.{ℕ, _+_, _-_, _*_, _≤_, _<_}
-use native.Mathlib.Omega.{arith}
+use Prim.Native.Nat.{ℕ, _+_, _-_, _*_}
 use Rattle.instance.specs.Tests.{Decides}
-use Rattle.files.specs.Layout.{blockAt, BlockFits, HeadFits, PointsFit, countIn, pointsOf}
-use Rattle.files.proofs.BlockLaws.{part-length, part-block, fits-head, fits-points}
+use Rattle.files.specs.Layout.{blockAt, HeadFits, PointsFit, countIn}
+use Rattle.files.proofs.BlockLaws.{part-block, fits-head, fits-points}
 use borrow.Author.Needs.{needs}
 use Rattle.files.proofs.layout.block_fits.Statement.{statement}
 use Rattle.files.proofs.layout.block_fits.Tie as tie
@@ -52,11 +51,14 @@ points-fit-requires c κs = search needs
 
 returns-2 : tie.Need-returns-2
 returns-2 c =
-    let s = c .before .before .before .before .before in
+    let p2 = c .before .before in
+    let p3 = p2 .before in
+    let p5 = p3 .before .before in
+    let s = p5 in
     let a = s .args in
     let e = part-block (a .file .now) (a .b) (a .b * 512) (a .b * 512 + 512) refl refl in
-    let n = c .before .before .count-in .ensures ∙ ap (λ (p : ℕ). countIn p (a .b)) (s .pre .1 .1 .1) in
-    fits-points (a .file .now) (a .blocks) (a .b) (c .before .before .before .if1 .left) (subst (λ (k : ℕ). Decides (c .points-fit .result) (PointsFit (blockAt (a .file .now) (a .b)) (a .b) k)) n (subst (λ (p : List ℕ). Decides (c .points-fit .result) (PointsFit p (a .b) (c .before .before .count-in .result))) e (c .points-fit .ensures)))
+    let n = p2 .count-in .ensures ∙ ap (λ (p : ℕ). countIn p (a .b)) (s .pre .1 .1 .1) in
+    fits-points (a .file .now) (a .blocks) (a .b) (p3 .if1 .left) (subst (λ (k : ℕ). Decides (c .points-fit .result) (PointsFit (blockAt (a .file .now) (a .b)) (a .b) k)) n (subst (λ (p : List ℕ). Decides (c .points-fit .result) (PointsFit p (a .b) (p2 .count-in .result))) e (c .points-fit .ensures)))
 
 pub block-fits-spec : {M : Type 1} → statement M
 block-fits-spec =

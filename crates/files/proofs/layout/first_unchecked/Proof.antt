@@ -1,15 +1,13 @@
 -- Each block is tested. Invariant: the checks of those passed fit. Measure: the blocks left.
-use mathlib.Core.Path.{_≡_, refl, sym, ap, subst, _∙_}
+use mathlib.Core.Path.{refl, subst}
 use mathlib.Core.List.{List}
 use Prim.Native.Nat.{ℕ, _+_, _-_, _*_, _≤_, _<_}
 use native.Mathlib.Omega.{arith}
 use borrow.Author.Count.{below-more}
-use lib.ListN.{length, take, drop}
-use Rattle.instance.proofs.TestLaws.{refused, accepted, holds, fails}
+use Rattle.instance.proofs.TestLaws.{refused, accepted}
 use Rattle.instance.specs.Tests.{Decides}
-use Rattle.files.specs.Structs.{FirstNot}
 use Rattle.blocks.specs.Check.{CheckFits}
-use Rattle.files.specs.Layout.{BlockChecked, blockAt}
+use Rattle.files.specs.Layout.{BlockChecked}
 use Rattle.files.proofs.BlockLaws.{part-length, part-block}
 use Rattle.files.proofs.layout.first_unchecked.Statement.{statement}
 use Rattle.files.proofs.layout.first_unchecked.Tie as tie
@@ -21,7 +19,10 @@ abbrev μ-loop : tie.MeasureT-loop
 μ-loop file blocks b₀ b = blocks - b
 
 fits-block : (c : tie.After-check-fits Inv-loop μ-loop) → Decides (c .check-fits .result) (BlockChecked (c .before .before .before .before .before .args .file .now) (c .before .before .before .loop .b))
-fits-block c = subst (λ (p : List ℕ). Decides (c .check-fits .result) (CheckFits p)) (part-block (c .before .before .before .before .before .args .file .now) (c .before .before .before .loop .b) (c .before .before .before .loop .b * 512) (c .before .before .before .loop .b * 512 + 512) refl refl) (c .check-fits .ensures)
+fits-block c =
+    let p3 = c .before .before .before in
+    let p5 = p3 .before .before in
+    subst (λ (p : List ℕ). Decides (c .check-fits .result) (CheckFits p)) (part-block (p5 .args .file .now) (p3 .loop .b) (p3 .loop .b * 512) (p3 .loop .b * 512 + 512) refl refl) (c .check-fits .ensures)
 
 loop-holds : tie.Need-loop-holds Inv-loop μ-loop
 loop-holds c = (omega arith, λ j h. absurd (omega arith))
@@ -42,7 +43,10 @@ part-check-fits-end : tie.Need-part-check-fits-end Inv-loop μ-loop
 part-check-fits-end c = omega arith
 
 check-fits-requires : tie.Need-check-fits-requires Inv-loop μ-loop
-check-fits-requires c κs = part-length (c .before .before .before .before .args .file .now) (c .before .before .loop .b) (c .before .before .loop .b * 512) (c .before .before .loop .b * 512 + 512) refl refl (omega arith)
+check-fits-requires c κs =
+    let p2 = c .before .before in
+    let p4 = p2 .before .before in
+    part-length (p4 .args .file .now) (p2 .loop .b) (p2 .loop .b * 512) (p2 .loop .b * 512 + 512) refl refl (omega arith)
 
 returns : tie.Need-returns Inv-loop μ-loop
 returns c =

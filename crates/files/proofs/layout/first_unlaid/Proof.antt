@@ -1,13 +1,8 @@
 -- Each block is tested. Invariant: those passed are laid out as they should be. Measure: the blocks left.
-use mathlib.Core.Path.{_≡_, refl, sym, ap, subst, _∙_}
-use mathlib.Core.List.{List}
-use Prim.Native.Nat.{ℕ, _+_, _-_, _*_, _≤_, _<_}
+use Prim.Native.Nat.{ℕ, _-_, _≤_, _<_}
 use native.Mathlib.Omega.{arith}
 use borrow.Author.Count.{below-more}
-use lib.ListN.{length, take, drop}
-use Rattle.instance.proofs.TestLaws.{refused, accepted, holds, fails}
-use Rattle.instance.specs.Tests.{Decides}
-use Rattle.files.specs.Structs.{FirstNot}
+use Rattle.instance.proofs.TestLaws.{refused, accepted}
 use Rattle.files.specs.Layout.{BlockFits}
 use Rattle.files.proofs.layout.first_unlaid.Statement.{statement}
 use Rattle.files.proofs.layout.first_unlaid.Tie as tie

@@ -1,6 +1,6 @@
 -- Each field is compared; the total last.
-use mathlib.Core.Path.{_≡_, sym, ap, subst, _∙_}
-use Prim.Native.Nat.{ℕ, _+_, _*_}
+use mathlib.Core.Path.{sym, ap, subst, _∙_}
+use Prim.Native.Nat.{ℕ}
 use borrow.Author.Tests.{eqb-true, eqb-false}
 use Rattle.instance.specs.Tests.{Decides}
 use Rattle.instance.proofs.TestLaws.{fails, refused, accepted}

@@ -1,5 +1,5 @@
 -- Each field is compared.
-use mathlib.Core.Path.{_≡_, sym, subst, _∙_}
+use mathlib.Core.Path.{sym, subst, _∙_}
 use Prim.Native.Nat.{ℕ, _+_, _*_}
 use Rattle.instance.specs.Tests.{Decides}
 use Rattle.instance.proofs.TestLaws.{fails}

@@ -1,5 +1,5 @@
 -- Zeros, then the kind and the number.
-use mathlib.Core.Path.{_≡_, sym, ap, subst, _∙_}
+use mathlib.Core.Path.{sym, ap, subst, _∙_}
 use mathlib.Core.List.{List}
 use Prim.Native.Nat.{ℕ}
 use lib.ListN.{length}
@@ -24,8 +24,12 @@ same-length c = search needs
 
 returns : tie.Need-returns
 returns c =
-    let s = c .before .before .before .before .before .before .before .before .before .before .before .before .before in
-    let e = c .before .before .set32 .ensures ∙ ap (λ (b : List ℕ). put32 b 4 (s .args .number)) (c .before .before .before .before .before .before .set16 .ensures ∙ ap (λ (b : List ℕ). put16 b 2 (s .args .kind)) (c .before .before .before .before .before .before .before .before .before .before .clear .ensures)) in
+    let p2 = c .before .before in
+    let p6 = p2 .before .before .before .before in
+    let p10 = p6 .before .before .before .before in
+    let p13 = p10 .before .before .before in
+    let s = p13 in
+    let e = p2 .set32 .ensures ∙ ap (λ (b : List ℕ). put32 b 4 (s .args .number)) (p6 .set16 .ensures ∙ ap (λ (b : List ℕ). put16 b 2 (s .args .kind)) (p10 .clear .ensures)) in
     subst (Begun (s .args .kind) (s .args .number)) (sym e) (begun (length (s .args .block .now)) (s .args .kind) (s .args .number) (s .pre .0))
 
 pub begin-spec : {M : Type 1} → statement M

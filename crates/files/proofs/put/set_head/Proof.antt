@@ -1,5 +1,5 @@
 -- A block that was begun, with the head's numbers, sealed.
-use mathlib.Core.Path.{_≡_, sym, ap, subst, _∙_}
+use mathlib.Core.Path.{sym, ap, subst, _∙_}
 use mathlib.Core.List.{List}
 use Prim.Native.Nat.{ℕ}
 use Rattle.blocks.specs.Fields.{put16, put32}
@@ -33,10 +33,17 @@ same-length c = search needs
 
 returns : tie.Need-returns
 returns c =
-    let a = c .before .before .before .before .before .before .before .before .before .before .before .before .before .before .before .before .before .before .before .before .before .before .before .before .before .args in
-    let e4 = c .before .before .before .before .before .before .set32 .ensures ∙ ap (λ (b : List ℕ). put32 b 16 (a .points)) (c .before .before .before .before .before .before .before .before .before .before .set163 .ensures ∙ ap (λ (b : List ℕ). put16 b 12 (a .n)) (c .before .before .before .before .before .before .before .before .before .before .before .before .before .before .set162 .ensures ∙ ap (λ (b : List ℕ). put16 b 10 (a .objectives)) (c .before .before .before .before .before .before .before .before .before .before .before .before .before .before .before .before .before .before .set16 .ensures))) in
-    let e = c .before .before .seal .ensures ∙ ap (λ (b : List ℕ). put16 b 0 (checkOf b)) e4 in
-    subst (HeadOf (a .objectives) (a .n) (a .points)) (sym e) (head-put (c .before .before .before .before .before .before .before .before .before .before .before .before .before .before .before .before .before .before .before .before .before .before .begin .last .0) (c .before .before .before .before .before .before .before .before .before .before .before .before .before .before .before .before .before .before .before .before .before .before .begin .ensures) (a .objectives) (a .n) (a .points))
+    let p2 = c .before .before in
+    let p6 = p2 .before .before .before .before in
+    let p10 = p6 .before .before .before .before in
+    let p14 = p10 .before .before .before .before in
+    let p18 = p14 .before .before .before .before in
+    let p22 = p18 .before .before .before .before in
+    let p25 = p22 .before .before .before in
+    let a = p25 .args in
+    let e4 = p6 .set32 .ensures ∙ ap (λ (b : List ℕ). put32 b 16 (a .points)) (p10 .set163 .ensures ∙ ap (λ (b : List ℕ). put16 b 12 (a .n)) (p14 .set162 .ensures ∙ ap (λ (b : List ℕ). put16 b 10 (a .objectives)) (p18 .set16 .ensures))) in
+    let e = p2 .seal .ensures ∙ ap (λ (b : List ℕ). put16 b 0 (checkOf b)) e4 in
+    subst (HeadOf (a .objectives) (a .n) (a .points)) (sym e) (head-put (p22 .begin .last .0) (p22 .begin .ensures) (a .objectives) (a .n) (a .points))
 
 pub set-head-spec : {M : Type 1} → statement M
 set-head-spec =

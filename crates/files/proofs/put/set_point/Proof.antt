@@ -1,8 +1,8 @@
 -- Five numbers, one after the other.
-use mathlib.Core.Path.{_≡_, refl, sym, ap, subst, _∙_}
+use mathlib.Core.Path.{refl, sym, ap, subst, _∙_}
 use mathlib.Core.List.{List}
 use Prim.Native.Nat.{ℕ, _+_, _*_}
-use lib.IntN.{ℤ, pos}
+use lib.IntN.{pos}
 use lib.ListN.{getD}
 use mir.Syntax.{w64}
 use mir.Facts.{toZ-ofZ}
@@ -93,20 +93,30 @@ same-length c = search needs
 
 returns : tie.Need-returns
 returns c =
-    let s = c .before .before .before .before .before .before .before .before .before .before .before .before .before .before .before .before .before .before .before .before .before .before .before .before .before .before .before in
+    let p2 = c .before .before in
+    let p7 = p2 .before .before .before .before .before in
+    let p8 = p7 .before in
+    let p12 = p8 .before .before .before .before in
+    let p13 = p12 .before in
+    let p17 = p13 .before .before .before .before in
+    let p18 = p17 .before in
+    let p22 = p18 .before .before .before .before in
+    let p23 = p22 .before in
+    let p27 = p23 .before .before .before .before in
+    let s = p27 in
     let a = s .args in
     let at = 8 + a .j * 40 in
     let vs = a .values .now in
     let k = a .k in
-    let p1 : List ℕ = put64 (a .block .now) at (bitsOf (getD vs (k * 4) (pos 0))) in
-    let e1 = stored-as (a .block .now) at (getD vs (k * 4) (pos 0)) (toZ-ofZ {w = w64} {z = getD vs (k * 4) (pos 0)} (record { sfits = c .before .before .before .before .before .before .before .before .before .before .before .before .before .before .before .before .before .before .before .before .before .before .before .set-signed-arg2 .given })) refl (c .before .before .before .before .before .before .before .before .before .before .before .before .before .before .before .before .before .before .before .before .before .before .set-signed .ensures) in
-    let p2 : List ℕ = put64 (p1) (at + 8) (bitsOf (getD vs (k * 4 + 1) (pos 0))) in
-    let e2 = stored-as (p1) (at + 8) (getD vs (k * 4 + 1) (pos 0)) (toZ-ofZ {w = w64} {z = getD vs (k * 4 + 1) (pos 0)} (record { sfits = c .before .before .before .before .before .before .before .before .before .before .before .before .before .before .before .before .before .before .set-signed-arg4 .given })) e1 (c .before .before .before .before .before .before .before .before .before .before .before .before .before .before .before .before .before .set-signed2 .ensures) in
-    let p3 : List ℕ = put64 (p2) (at + 16) (bitsOf (getD vs (k * 4 + 2) (pos 0))) in
-    let e3 = stored-as (p2) (at + 16) (getD vs (k * 4 + 2) (pos 0)) (toZ-ofZ {w = w64} {z = getD vs (k * 4 + 2) (pos 0)} (record { sfits = c .before .before .before .before .before .before .before .before .before .before .before .before .before .set-signed-arg6 .given })) e2 (c .before .before .before .before .before .before .before .before .before .before .before .before .set-signed3 .ensures) in
-    let p4 : List ℕ = put64 (p3) (at + 24) (bitsOf (getD vs (k * 4 + 3) (pos 0))) in
-    let e4 = stored-as (p3) (at + 24) (getD vs (k * 4 + 3) (pos 0)) (toZ-ofZ {w = w64} {z = getD vs (k * 4 + 3) (pos 0)} (record { sfits = c .before .before .before .before .before .before .before .before .set-signed-arg8 .given })) e3 (c .before .before .before .before .before .before .before .set-signed4 .ensures) in
-    let e = c .before .before .set64 .ensures ∙ ap (λ (b : List ℕ). put64 b (at + 32) (getD (a .models .now) k 0)) e4 in
+    let b1 : List ℕ = put64 (a .block .now) at (bitsOf (getD vs (k * 4) (pos 0))) in
+    let e1 = stored-as (a .block .now) at (getD vs (k * 4) (pos 0)) (toZ-ofZ {w = w64} {z = getD vs (k * 4) (pos 0)} (record { sfits = p23 .set-signed-arg2 .given })) refl (p22 .set-signed .ensures) in
+    let b2 : List ℕ = put64 b1 (at + 8) (bitsOf (getD vs (k * 4 + 1) (pos 0))) in
+    let e2 = stored-as b1 (at + 8) (getD vs (k * 4 + 1) (pos 0)) (toZ-ofZ {w = w64} {z = getD vs (k * 4 + 1) (pos 0)} (record { sfits = p18 .set-signed-arg4 .given })) e1 (p17 .set-signed2 .ensures) in
+    let b3 : List ℕ = put64 b2 (at + 16) (bitsOf (getD vs (k * 4 + 2) (pos 0))) in
+    let e3 = stored-as b2 (at + 16) (getD vs (k * 4 + 2) (pos 0)) (toZ-ofZ {w = w64} {z = getD vs (k * 4 + 2) (pos 0)} (record { sfits = p13 .set-signed-arg6 .given })) e2 (p12 .set-signed3 .ensures) in
+    let b4 : List ℕ = put64 b3 (at + 24) (bitsOf (getD vs (k * 4 + 3) (pos 0))) in
+    let e4 = stored-as b3 (at + 24) (getD vs (k * 4 + 3) (pos 0)) (toZ-ofZ {w = w64} {z = getD vs (k * 4 + 3) (pos 0)} (record { sfits = p8 .set-signed-arg8 .given })) e3 (p7 .set-signed4 .ensures) in
+    let e = p2 .set64 .ensures ∙ ap (λ (b : List ℕ). put64 b (at + 32) (getD (a .models .now) k 0)) e4 in
     subst (PointPut (a .block .now) (a .j) vs (a .models .now) k) (sym e) (point-put (a .block .now) (a .j) vs (a .models .now) k (s .pre .0) (s .pre .1 .0))
 
 pub set-point-spec : {M : Type 1} → statement M

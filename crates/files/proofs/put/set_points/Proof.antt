@@ -1,7 +1,6 @@
 -- A block that was begun, with its points, sealed.
-use mathlib.Core.Path.{_≡_, sym, ap, subst, _∙_}
-use mathlib.Core.List.{List}
-use Prim.Native.Nat.{ℕ, _+_, _-_, _*_}
+use mathlib.Core.Path.{sym, subst}
+use Prim.Native.Nat.{ℕ, _-_, _*_}
 use Rattle.files.specs.Layout.{countIn}
 use Rattle.files.specs.Structs.{PointsOf}
 use Rattle.files.specs.Put.{PointsPut}
@@ -33,13 +32,18 @@ same-length c = search needs
 
 returns : tie.Need-returns
 returns c =
-    let a = c .before .before .before .before .before .before .before .before .before .before .before .before .before .before .before .args in
-    let p = c .before .before .before .before .before .before .before .before .before .before .begin .last .0 in
-    let q = c .before .before .before .before .before .before .set-each .last .0 in
+    let p2 = c .before .before in
+    let p6 = p2 .before .before .before .before in
+    let p10 = p6 .before .before .before .before in
+    let p12 = p10 .before .before in
+    let p15 = p12 .before .before .before in
+    let a = p15 .args in
+    let p = p10 .begin .last .0 in
+    let q = p6 .set-each .last .0 in
     let first = (a .b - 1) * 12 in
-    let each = subst (λ (n : ℕ). PointsPut p first n (a .values .now) (a .models .now) q) (c .before .before .before .before .before .before .before .before .before .before .before .before .count-in .ensures) (c .before .before .before .before .before .before .set-each .ensures) in
-    subst (PointsOf (a .b) first (countIn (a .points) (a .b)) (a .values .now) (a .models .now)) (sym (c .before .before .seal .ensures))
-    (points-sealed p q (a .b) first (countIn (a .points) (a .b)) (a .values .now) (a .models .now) (c .before .before .before .before .before .before .before .before .before .before .begin .ensures) each)
+    let each = subst (λ (n : ℕ). PointsPut p first n (a .values .now) (a .models .now) q) (p12 .count-in .ensures) (p6 .set-each .ensures) in
+    subst (PointsOf (a .b) first (countIn (a .points) (a .b)) (a .values .now) (a .models .now)) (sym (p2 .seal .ensures))
+    (points-sealed p q (a .b) first (countIn (a .points) (a .b)) (a .values .now) (a .models .now) (p10 .begin .ensures) each)
 
 pub set-points-spec : {M : Type 1} → statement M
 set-points-spec =

@@ -1,9 +1,6 @@
 -- The list is decoded into local runs; what stands after it there does not matter.
-use mathlib.Core.Path.{_≡_, refl, sym, ap, subst, _∙_}
-use mathlib.Core.List.{List, _++_}
-use Prim.Native.Nat.{ℕ, _+_, _-_, _*_, _≤_, _<_}
+use Prim.Native.Nat.{_-_}
 use native.Mathlib.Omega.{arith}
-use Rattle.instance.specs.Tests.{Decides}
 use Rattle.instance.proofs.TestLaws.{fails}
 use Rattle.files.proofs.ReadLaws.{decides-list}
 use borrow.Author.Needs.{needs}

@@ -1,7 +1,7 @@
 -- Each refusal is tried in its order; where none holds, the points are decoded into the runs.
 use mathlib.Core.Path.{_≡_, refl, sym, ap, subst, _∙_}
-use mathlib.Core.List.{List, _++_}
-use Prim.Native.Nat.{ℕ, _+_, _-_, _*_, _/_, _%_, _≤_, _<_}
+use mathlib.Core.List.{_++_}
+use Prim.Native.Nat.{ℕ, _+_, _-_, _*_, _≤_}
 use native.Mathlib.Omega.{arith}
 use borrow.Author.Needs.{needs}
 use lib.ListN.{length, drop}
@@ -10,10 +10,9 @@ use Rattle.instance.proofs.TestLaws.{refused, accepted}
 use Rattle.points.specs.Lists.{Proper}
 use Rattle.files.specs.declared.read.FileHead.{FileHead}
 use Rattle.files.specs.declared.read.FileRead.the-variants.{Done}
-use Rattle.files.specs.Layout.{blockAt, blocksFor, pointsOf, valuesIn, modelsIn}
-use Rattle.files.specs.Structs.{headOf}
-use Rattle.files.specs.Taken.{LengthFits, AllChecked, Sound, ProperList, points, blocksIn, answerOf}
-use Rattle.files.proofs.ReadLaws.{sound-room, sound-total}
+use Rattle.files.specs.Layout.{blocksFor, valuesIn, modelsIn}
+use Rattle.files.specs.Taken.{LengthFits, AllChecked, Sound, ProperList, points, answerOf}
+use Rattle.files.proofs.ReadLaws.{sound-room}
 use Rattle.files.proofs.read.read_file.Statement.{statement}
 use Rattle.files.proofs.read.read_file.Tie as tie
 
@@ -31,8 +30,10 @@ headed c = ap (λ (h : FileHead). h .points) (c .head-of .ensures)
 
 listed : (c : tie.After-is-proper-list) → Decides (c .is-proper-list .result) (ProperList (c .before .before .before .before .before .before .before .before .before .before .before .args .file .now))
 listed c =
-    let f = c .before .before .before .before .before .before .before .before .before .before .before .args .file .now in
-    subst (λ (h : FileHead). Decides (c .is-proper-list .result) (Proper (h .objectives) (h .n) (h .points) (valuesIn f (h .points)) (modelsIn f (h .points)))) (c .before .before .before .head-of .ensures) (c .is-proper-list .ensures)
+    let p3 = c .before .before .before in
+    let p11 = p3 .before .before .before .before .before .before .before .before in
+    let f = p11 .args .file .now in
+    subst (λ (h : FileHead). Decides (c .is-proper-list .result) (Proper (h .objectives) (h .n) (h .points) (valuesIn f (h .points)) (modelsIn f (h .points)))) (p3 .head-of .ensures) (c .is-proper-list .ensures)
 
 proper : (c : tie.Else6) → ProperList (c .before .before .before .before .before .before .before .before .before .before .before .before .args .file .now)
 proper c = accepted (listed (c .before)) (c .if6 .left)
@@ -50,7 +51,9 @@ first-unchecked-requires : tie.Need-first-unchecked-requires
 first-unchecked-requires c κs = search needs
 
 returns-4 : tie.Need-returns-4
-returns-4 c = record { answer = refl; sized = sized (c .before .before); lowest = record { inside = c .if4 .taken; fails = c .before .first-unchecked .ensures .stop (c .if4 .taken); below = c .before .first-unchecked .ensures .below }; kept = record { values = refl; models = refl } }
+returns-4 c =
+    let p2 = c .before .before in
+    record { answer = refl; sized = sized (p2); lowest = record { inside = c .if4 .taken; fails = c .before .first-unchecked .ensures .stop (c .if4 .taken); below = c .before .first-unchecked .ensures .below }; kept = record { values = refl; models = refl } }
 
 head-of-requires : tie.Need-head-of-requires
 head-of-requires c κs = search needs
@@ -59,10 +62,16 @@ first-unlaid-requires : tie.Need-first-unlaid-requires
 first-unlaid-requires c κs = (omega arith, (omega (arith, sized (c .before .before .before) .most), headed c))
 
 returns-5 : tie.Need-returns-5
-returns-5 c = record { answer = refl; sized = sized (c .before .before .before .before .before); checked = checked (c .before .before .before); lowest = record { inside = c .if5 .taken; fails = c .before .first-unlaid .ensures .stop (c .if5 .taken); below = c .before .first-unlaid .ensures .below }; kept = record { values = refl; models = refl } }
+returns-5 c =
+    let p3 = c .before .before .before in
+    let p5 = p3 .before .before in
+    record { answer = refl; sized = sized (p5); checked = checked (p3); lowest = record { inside = c .if5 .taken; fails = c .before .first-unlaid .ensures .stop (c .if5 .taken); below = c .before .first-unlaid .ensures .below }; kept = record { values = refl; models = refl } }
 
 is-proper-list-requires : tie.Need-is-proper-list-requires
-is-proper-list-requires c κs = subst (λ (p : ℕ). blocksFor p * 512 ≤ length (c .before .before .before .before .before .before .before .before .before .before .args .file .now)) (sym (headed (c .before .before))) (sound-room (sound c))
+is-proper-list-requires c κs =
+    let p2 = c .before .before in
+    let p10 = p2 .before .before .before .before .before .before .before .before in
+    subst (λ (p : ℕ). blocksFor p * 512 ≤ length (p10 .args .file .now)) (sym (headed (p2))) (sound-room (sound c))
 
 returns-6 : tie.Need-returns-6
 returns-6 c = record { answer = refl; sound = sound (c .before .before); improper = refused (listed (c .before)) (c .if6 .taken); kept = record { values = refl; models = refl } }
@@ -71,16 +80,33 @@ mul-if7 : tie.Need-mul-if7
 mul-if7 c = omega (arith, headed (c .before .before .before .before), proper c .few-points)
 
 returns-7 : tie.Need-returns-7
-returns-7 c = record { answer = refl; sound = sound (c .before .before .before); proper = proper (c .before); short = λ r. omega (arith, headed (c .before .before .before .before .before), r .values); kept = record { values = refl; models = refl } }
+returns-7 c =
+    let p3 = c .before .before .before in
+    let p5 = p3 .before .before in
+    record { answer = refl; sound = sound (p3); proper = proper (c .before); short = λ r. omega (arith, headed (p5), r .values); kept = record { values = refl; models = refl } }
 
 returns-8 : tie.Need-returns-8
-returns-8 c = record { answer = refl; sound = sound (c .before .before .before .before); proper = proper (c .before .before); short = λ r. omega (arith, headed (c .before .before .before .before .before .before), r .models); kept = record { values = refl; models = refl } }
+returns-8 c =
+    let p2 = c .before .before in
+    let p4 = p2 .before .before in
+    let p6 = p4 .before .before in
+    record { answer = refl; sound = sound (p4); proper = proper (p2); short = λ r. omega (arith, headed (p6), r .models); kept = record { values = refl; models = refl } }
 
 take-values-requires : tie.Need-take-values-requires
-take-values-requires c κs = (omega (arith, headed (c .before .before .before .before .before .before .before), proper (c .before .before .before) .few-points), (subst (λ (p : ℕ). blocksFor p * 512 ≤ length (c .before .before .before .before .before .before .before .before .before .before .before .before .before .before .before .args .file .now)) (sym (headed (c .before .before .before .before .before .before .before))) (sound-room (sound (c .before .before .before .before .before))), omega arith))
+take-values-requires c κs =
+    let p3 = c .before .before .before in
+    let p5 = p3 .before .before in
+    let p7 = p5 .before .before in
+    let p15 = p7 .before .before .before .before .before .before .before .before in
+    (omega (arith, headed (p7), proper (p3) .few-points), (subst (λ (p : ℕ). blocksFor p * 512 ≤ length (p15 .args .file .now)) (sym (headed (p7))) (sound-room (sound (p5))), omega arith))
 
 take-models-requires : tie.Need-take-models-requires
-take-models-requires c κs = (omega (arith, headed (c .before .before .before .before .before .before .before .before .before .before), proper (c .before .before .before .before .before .before) .few-points), (subst (λ (p : ℕ). blocksFor p * 512 ≤ length (c .before .before .before .before .before .before .before .before .before .before .before .before .before .before .before .before .before .before .args .file .now)) (sym (headed (c .before .before .before .before .before .before .before .before .before .before))) (sound-room (sound (c .before .before .before .before .before .before .before .before))), omega arith))
+take-models-requires c κs =
+    let p6 = c .before .before .before .before .before .before in
+    let p8 = p6 .before .before in
+    let p10 = p8 .before .before in
+    let p18 = p10 .before .before .before .before .before .before .before .before in
+    (omega (arith, headed (p10), proper (p6) .few-points), (subst (λ (p : ℕ). blocksFor p * 512 ≤ length (p18 .args .file .now)) (sym (headed (p10))) (sound-room (sound (p8))), omega arith))
 
 same-length : tie.Need-same-length
 same-length c = search needs
@@ -90,16 +116,24 @@ same-length-2 c = search needs
 
 returns-9 : tie.Need-returns-9
 returns-9 c =
-    let f = c .before .before .before .before .before .before .before .before .before .before .before .before .before .before .before .before .before .before .before .before .before .args .file .now in
-    let a = c .before .before .before .before .before .before .before .before .before .before .before .before .before .before .before .before .before .before .before .before .before .args in
-    let h = c .before .before .before .before .before .before .before .before .before .before .before .before .before in
+    let p2 = c .before .before in
+    let p5 = p2 .before .before .before in
+    let p7 = p5 .before .before in
+    let p8 = p7 .before in
+    let p9 = p8 .before in
+    let p11 = p9 .before .before in
+    let p13 = p11 .before .before in
+    let p21 = p13 .before .before .before .before .before .before .before .before in
+    let f = p21 .args .file .now in
+    let a = p21 .args in
+    let h = p13 in
     record {
       answer = ap (λ (x : FileHead). answerOf (Done x)) (h .head-of .ensures);
-      sound = sound (c .before .before .before .before .before .before .before .before .before .before .before);
-      proper = proper (c .before .before .before .before .before .before .before .before .before);
-      room = record { values = omega (arith, headed h); models = omega (arith, headed h) };
-      values = c .before .before .before .before .before .take-values .ensures ∙ ap (λ (p : ℕ). valuesIn f p ++ drop (p * 4) (a .values .now)) (headed h);
-      models = c .before .before .take-models .ensures ∙ ap (λ (p : ℕ). modelsIn f p ++ drop p (a .models .now)) (headed h);
+      sound = sound (p11);
+      proper = proper (p9);
+      room = record { values = omega (arith, headed h, p8 .if7 .left); models = omega (arith, headed h, p7 .if8 .left) };
+      values = p5 .take-values .ensures ∙ ap (λ (p : ℕ). valuesIn f p ++ drop (p * 4) (a .values .now)) (headed h);
+      models = p2 .take-models .ensures ∙ ap (λ (p : ℕ). modelsIn f p ++ drop p (a .models .now)) (headed h);
     }
 
 pub read-file-spec : {M : Type 1} → statement M

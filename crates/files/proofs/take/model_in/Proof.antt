@@ -1,7 +1,7 @@
 -- The assignment is read from its place in its block.
-use mathlib.Core.Path.{_≡_, refl, sym, ap, subst, _∙_}
+use mathlib.Core.Path.{refl, ap, _∙_}
 use mathlib.Core.List.{List}
-use Prim.Native.Nat.{ℕ, _+_, _-_, _*_, _/_, _%_}
+use Prim.Native.Nat.{ℕ, _+_, _-_, _*_, _/_}
 use Rattle.blocks.specs.Fields.{u64At}
 use Rattle.files.specs.Layout.{placeOf}
 use Rattle.files.proofs.BlockLaws.{part-block}

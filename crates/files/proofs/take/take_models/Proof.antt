@@ -1,8 +1,8 @@
 -- Each assignment is read and stored. Invariant: those passed are the file's, the rest is as found. Measure: the assignments left.
 use borrow.Author.Needs.{needs}
-use mathlib.Core.Path.{_≡_, refl, sym, ap, subst, _∙_}
-use mathlib.Core.List.{List, _++_}
-use Prim.Native.Nat.{ℕ, _+_, _-_, _*_, _≤_, _<_}
+use mathlib.Core.Path.{_≡_, refl, ap, _∙_}
+use mathlib.Core.List.{_++_}
+use Prim.Native.Nat.{ℕ, _+_, _-_, _≤_}
 use native.Mathlib.Omega.{arith}
 use lib.ListN.{length, drop, set, length-set}
 use Rattle.instance.specs.Lists.{tabulate}
@@ -39,7 +39,8 @@ loop-less c = omega arith
 
 loop-again : tie.Need-loop-again Inv-loop μ-loop
 loop-again c =
-    let l = c .before .before in
+    let p2 = c .before .before in
+    let l = p2 in
     let a = l .before .before .before .args in
     (omega arith, length-set (l .loop .models) (l .loop .k) _ ∙ l .loop .inv .1, ap (λ (z : ℕ). set (l .loop .models) (l .loop .k) z) (c .model-in .ensures) ∙ fill-next (modelIn (a .file .now)) (a .models .now) (l .loop .models) (l .loop .k) (omega arith) (l .loop .inv .2))
 

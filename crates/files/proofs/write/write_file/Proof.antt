@@ -1,14 +1,12 @@
 -- The list is tried, then the room; the head and the point blocks make up its file.
-use mathlib.Core.Path.{_≡_, refl, sym, ap, subst, _∙_}
-use mathlib.Core.List.{List}
-use Prim.Native.Nat.{ℕ, _+_, _-_, _*_, _≤_, _<_}
+use mathlib.Core.Path.{_≡_, refl, sym, ap, _∙_}
+use Prim.Native.Nat.{ℕ, _-_, _*_}
 use native.Mathlib.Omega.{arith}
 use borrow.Author.Needs.{needs}
 use lib.ListN.{length, take, drop, length-append, length-drop}
 use lib.Seq.{length-take-le}
 use Rattle.instance.proofs.TestLaws.{refused, accepted}
 use Rattle.points.specs.Lists.{Proper}
-use Rattle.files.specs.Layout.{blocksFor}
 use Rattle.files.proofs.WriteLaws.{written-all}
 use Rattle.files.proofs.write.write_file.Statement.{statement}
 use Rattle.files.proofs.write.write_file.Tie as tie
@@ -47,20 +45,31 @@ set-head-requires c κs =
 
 set-blocks-requires : tie.Need-set-blocks-requires
 set-blocks-requires c κs =
-    let p = proper (c .before .before .before .before .before .before .before) in
-    let f = c .before .before .before .before .before .before .before .before .before .before .before .args .file .now in
-    let h = c .before .before .before .set-head in
-    let whole : length (h .last .0) ≡ 512 = h .kept .0 ∙ first-block (c .before .before .before .before .before) in
-    (p .few-points, (omega (arith, length-append (h .last .0) (drop 512 f), length-drop 512 f, c .before .before .before .before .before .before .blocks-for .ensures, c .before .before .before .before .before .if2 .left), (p .values-room, p .models-room)))
+    let p3 = c .before .before .before in
+    let p5 = p3 .before .before in
+    let p6 = p5 .before in
+    let p7 = p6 .before in
+    let p11 = p7 .before .before .before .before in
+    let p = proper (p7) in
+    let f = p11 .args .file .now in
+    let h = p3 .set-head in
+    let whole : length (h .last .0) ≡ 512 = h .kept .0 ∙ first-block (p5) in
+    (p .few-points, (omega (arith, length-append (h .last .0) (drop 512 f), length-drop 512 f, p6 .blocks-for .ensures, p5 .if2 .left), (p .values-room, p .models-room)))
 
 same-length : tie.Need-same-length
 same-length c = search needs
 
 returns-3 : tie.Need-returns-3
 returns-3 c =
-    let s = c .before .before .before .before .before .before .before .before .before .before .before .before .before .before in
+    let p2 = c .before .before in
+    let p6 = p2 .before .before .before .before in
+    let p8 = p6 .before .before in
+    let p9 = p8 .before in
+    let p10 = p9 .before in
+    let p14 = p10 .before .before .before .before in
+    let s = p14 in
     let f = s .args .file .now in
-    written-all f (c .before .before .before .before .before .before .set-head .last .0) (c .before .before .set-blocks .last .0) _ (proper (c .before .before .before .before .before .before .before .before .before .before)) (omega (arith, c .before .before .before .before .before .before .before .before .before .blocks-for .ensures)) (c .before .before .before .before .before .before .set-head .kept .0 ∙ first-block (c .before .before .before .before .before .before .before .before)) (c .before .before .before .before .before .before .set-head .ensures) (c .before .before .set-blocks .ensures) (ap (λ (k : ℕ). k * 512) (c .before .before .before .before .before .before .before .before .before .blocks-for .ensures))
+    written-all f (p6 .set-head .last .0) (p2 .set-blocks .last .0) _ (proper (p10)) (omega (arith, p9 .blocks-for .ensures)) (p6 .set-head .kept .0 ∙ first-block (p8)) (p6 .set-head .ensures) (p2 .set-blocks .ensures) (ap (λ (k : ℕ). k * 512) (p9 .blocks-for .ensures))
 
 pub write-file-spec : {M : Type 1} → statement M
 write-file-spec =

@@ -1,5 +1,4 @@
 -- Each point is tested against the later ones. Invariant: those passed are at most no later one. Measure: the points left.
-use mathlib.Core.Path.{_≡_}
 use Prim.Native.Nat.{ℕ, _-_, _≤_, _<_}
 use native.Mathlib.Omega.{arith}
 use borrow.Author.Count.{below-more}

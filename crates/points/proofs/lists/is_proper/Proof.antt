@@ -1,10 +1,6 @@
 -- Each test fails where a clause does; where vectors rise, the last decides whether none dominates another.
-use mathlib.Core.Path.{_≡_}
-use Prim.Native.Nat.{ℕ, _*_, _≤_, _<_}
 use native.Mathlib.Omega.{arith}
-use Rattle.instance.specs.Tests.{Decides}
 use Rattle.instance.proofs.TestLaws.{refused, accepted, fails}
-use Rattle.points.specs.Lists.{ValuesFine, BitsBelow, RisingAt}
 use Rattle.points.proofs.ListLaws.{apart-none, none-apart}
 use borrow.Author.Needs.{needs}
 use Rattle.points.proofs.lists.is_proper.Statement.{statement}

@@ -1,6 +1,6 @@
 -- Each vector is compared with the one before it. Invariant: the vectors passed rise. Measure: the vectors left.
-use mathlib.Core.Path.{_≡_, sym, _∙_}
-use Prim.Native.Nat.{ℕ, _+_, _-_, _≤_, _<_}
+use mathlib.Core.Path.{sym, _∙_}
+use Prim.Native.Nat.{_-_, _≤_}
 use native.Mathlib.Omega.{arith}
 use borrow.Author.Tests.{not-true, not-false}
 use Rattle.points.specs.Lists.{RisingAt}

@@ -1,5 +1,4 @@
 -- Each assignment is tested. Invariant: those passed have no bit from n up. Measure: the assignments left.
-use mathlib.Core.Path.{_≡_}
 use Prim.Native.Nat.{ℕ, _-_, _≤_, _<_, _^_}
 use borrow.Author.Needs.{needs}
 use native.Mathlib.Omega.{arith}

@@ -1,6 +1,6 @@
 -- Each later point is compared with point a. Invariant: a is at most none of those passed. Measure: the points left.
-use mathlib.Core.Path.{_≡_, sym, _∙_}
-use Prim.Native.Nat.{ℕ, _+_, _-_, _≤_, _<_}
+use mathlib.Core.Path.{sym, _∙_}
+use Prim.Native.Nat.{_-_, _<_}
 use native.Mathlib.Omega.{arith}
 use Rattle.points.specs.Lists.{NoneAfter}
 use Rattle.instance.proofs.TestLaws.{holds, fails}

@@ -1,9 +1,8 @@
 -- The number's size is compared with the limit; where no objective has the number, its size is 0 exactly where it is.
 use mathlib.Core.Path.{_≡_, ap, _∙_, sym}
-use Prim.Native.Nat.{ℕ, _≤_, _<_, _%_}
 use native.Mathlib.Omega.{arith}
 use borrow.Author.Tests.{eqb-true, eqb-false}
-use lib.IntN.{ℤ, pos, natAbs}
+use lib.IntN.{pos, natAbs}
 use lib.ListN.{getD}
 use mir.Syntax.{w64}
 use mir.Facts.{toZ-ofZ}

@@ -1,6 +1,5 @@
 -- Each number is tested. Invariant: the numbers passed are fine. Measure: the numbers left.
-use mathlib.Core.Path.{_≡_}
-use Prim.Native.Nat.{ℕ, _-_, _≤_, _<_}
+use Prim.Native.Nat.{_-_, _≤_}
 use native.Mathlib.Omega.{arith}
 use borrow.Author.Count.{below-more}
 use Rattle.points.specs.Lists.{ValueFine, ValuesFine}

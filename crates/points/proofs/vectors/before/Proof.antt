@@ -35,7 +35,9 @@ less-requires-2 c κs = search needs
 
 returns-2 : tie.Need-returns-2
 unfolding lex
-returns-2 c = cond-go true (c .before .before .before .less .ensures) (c .before .before .if1 .left) (cond-stop false _ (c .before .less2 .ensures) (c .if2 .taken))
+returns-2 c =
+    let i1 = c .before .before in
+    cond-go true (i1 .before .less .ensures) (i1 .if1 .left) (cond-stop false _ (c .before .less2 .ensures) (c .if2 .taken))
 
 add-less : tie.Need-add-less
 add-less c = search needs
@@ -48,7 +50,10 @@ less-requires-3 c κs = search needs
 
 returns-3 : tie.Need-returns-3
 unfolding lex
-returns-3 c = cond-go true (c .before .before .before .before .before .less .ensures) (c .before .before .before .before .if1 .left) (cond-go false (c .before .before .before .less2 .ensures) (c .before .before .if2 .left) (cond-stop true _ (c .before .less3 .ensures) (c .if3 .taken)))
+returns-3 c =
+    let i2 = c .before .before in
+    let i1 = i2 .before .before in
+    cond-go true (i1 .before .less .ensures) (i1 .if1 .left) (cond-go false (i2 .before .less2 .ensures) (i2 .if2 .left) (cond-stop true _ (c .before .less3 .ensures) (c .if3 .taken)))
 
 add-less-3 : tie.Need-add-less-3
 add-less-3 c = search needs
@@ -61,7 +66,11 @@ less-requires-4 c κs = search needs
 
 returns-4 : tie.Need-returns-4
 unfolding lex
-returns-4 c = cond-go true (c .before .before .before .before .before .before .before .less .ensures) (c .before .before .before .before .before .before .if1 .left) (cond-go false (c .before .before .before .before .before .less2 .ensures) (c .before .before .before .before .if2 .left) (cond-go true (c .before .before .before .less3 .ensures) (c .before .before .if3 .left) (cond-stop false _ (c .before .less4 .ensures) (c .if4 .taken))))
+returns-4 c =
+    let i3 = c .before .before in
+    let i2 = i3 .before .before in
+    let i1 = i2 .before .before in
+    cond-go true (i1 .before .less .ensures) (i1 .if1 .left) (cond-go false (i2 .before .less2 .ensures) (i2 .if2 .left) (cond-go true (i3 .before .less3 .ensures) (i3 .if3 .left) (cond-stop false _ (c .before .less4 .ensures) (c .if4 .taken))))
 
 add-less-5 : tie.Need-add-less-5
 add-less-5 c = search needs
@@ -74,7 +83,12 @@ less-requires-5 c κs = search needs
 
 returns-5 : tie.Need-returns-5
 unfolding lex
-returns-5 c = cond-go true (c .before .before .before .before .before .before .before .before .before .less .ensures) (c .before .before .before .before .before .before .before .before .if1 .left) (cond-go false (c .before .before .before .before .before .before .before .less2 .ensures) (c .before .before .before .before .before .before .if2 .left) (cond-go true (c .before .before .before .before .before .less3 .ensures) (c .before .before .before .before .if3 .left) (cond-go false (c .before .before .before .less4 .ensures) (c .before .before .if4 .left) (cond-stop true _ (c .before .less5 .ensures) (c .if5 .taken)))))
+returns-5 c =
+    let i4 = c .before .before in
+    let i3 = i4 .before .before in
+    let i2 = i3 .before .before in
+    let i1 = i2 .before .before in
+    cond-go true (i1 .before .less .ensures) (i1 .if1 .left) (cond-go false (i2 .before .less2 .ensures) (i2 .if2 .left) (cond-go true (i3 .before .less3 .ensures) (i3 .if3 .left) (cond-go false (i4 .before .less4 .ensures) (i4 .if4 .left) (cond-stop true _ (c .before .less5 .ensures) (c .if5 .taken)))))
 
 add-less-7 : tie.Need-add-less-7
 add-less-7 c = search needs
@@ -87,7 +101,13 @@ less-requires-6 c κs = search needs
 
 returns-6 : tie.Need-returns-6
 unfolding lex
-returns-6 c = cond-go true (c .before .before .before .before .before .before .before .before .before .before .before .less .ensures) (c .before .before .before .before .before .before .before .before .before .before .if1 .left) (cond-go false (c .before .before .before .before .before .before .before .before .before .less2 .ensures) (c .before .before .before .before .before .before .before .before .if2 .left) (cond-go true (c .before .before .before .before .before .before .before .less3 .ensures) (c .before .before .before .before .before .before .if3 .left) (cond-go false (c .before .before .before .before .before .less4 .ensures) (c .before .before .before .before .if4 .left) (cond-go true (c .before .before .before .less5 .ensures) (c .before .before .if5 .left) (cond-stop false _ (c .before .less6 .ensures) (c .if6 .taken))))))
+returns-6 c =
+    let i5 = c .before .before in
+    let i4 = i5 .before .before in
+    let i3 = i4 .before .before in
+    let i2 = i3 .before .before in
+    let i1 = i2 .before .before in
+    cond-go true (i1 .before .less .ensures) (i1 .if1 .left) (cond-go false (i2 .before .less2 .ensures) (i2 .if2 .left) (cond-go true (i3 .before .less3 .ensures) (i3 .if3 .left) (cond-go false (i4 .before .less4 .ensures) (i4 .if4 .left) (cond-go true (i5 .before .less5 .ensures) (i5 .if5 .left) (cond-stop false _ (c .before .less6 .ensures) (c .if6 .taken))))))
 
 add-less-9 : tie.Need-add-less-9
 add-less-9 c = search needs
@@ -100,7 +120,14 @@ less-requires-7 c κs = search needs
 
 returns-7 : tie.Need-returns-7
 unfolding lex
-returns-7 c = cond-go true (c .before .before .before .before .before .before .before .before .before .before .before .before .less .ensures) (c .before .before .before .before .before .before .before .before .before .before .before .if1 .left) (cond-go false (c .before .before .before .before .before .before .before .before .before .before .less2 .ensures) (c .before .before .before .before .before .before .before .before .before .if2 .left) (cond-go true (c .before .before .before .before .before .before .before .before .less3 .ensures) (c .before .before .before .before .before .before .before .if3 .left) (cond-go false (c .before .before .before .before .before .before .less4 .ensures) (c .before .before .before .before .before .if4 .left) (cond-go true (c .before .before .before .before .less5 .ensures) (c .before .before .before .if5 .left) (cond-go false (c .before .before .less6 .ensures) (c .before .if6 .left) (cond-last _ (last c) (c .less7 .ensures)))))))
+returns-7 c =
+    let i6 = c .before in
+    let i5 = i6 .before .before in
+    let i4 = i5 .before .before in
+    let i3 = i4 .before .before in
+    let i2 = i3 .before .before in
+    let i1 = i2 .before .before in
+    cond-go true (i1 .before .less .ensures) (i1 .if1 .left) (cond-go false (i2 .before .less2 .ensures) (i2 .if2 .left) (cond-go true (i3 .before .less3 .ensures) (i3 .if3 .left) (cond-go false (i4 .before .less4 .ensures) (i4 .if4 .left) (cond-go true (i5 .before .less5 .ensures) (i5 .if5 .left) (cond-go false (i6 .before .less6 .ensures) (i6 .if6 .left) (cond-last _ (last c) (c .less7 .ensures)))))))
 
 pub before-spec : {M : Type 1} → statement M
 before-spec =

@@ -29,7 +29,9 @@ at-most-requires-2 c κs = search needs
 
 returns-2 : tie.Need-returns-2
 unfolding leAll
-returns-2 c = and-go (c .before .before .before .at-most .ensures) (c .before .before .if1 .left) (and-stop _ (c .before .at-most2 .ensures) (c .if2 .taken))
+returns-2 c =
+    let i1 = c .before .before in
+    and-go (i1 .before .at-most .ensures) (i1 .if1 .left) (and-stop _ (c .before .at-most2 .ensures) (c .if2 .taken))
 
 add-at-most-3 : tie.Need-add-at-most-3
 add-at-most-3 c = search needs
@@ -42,7 +44,10 @@ at-most-requires-3 c κs = search needs
 
 returns-3 : tie.Need-returns-3
 unfolding leAll
-returns-3 c = and-go (c .before .before .before .before .before .at-most .ensures) (c .before .before .before .before .if1 .left) (and-go (c .before .before .before .at-most2 .ensures) (c .before .before .if2 .left) (and-stop _ (c .before .at-most3 .ensures) (c .if3 .taken)))
+returns-3 c =
+    let i2 = c .before .before in
+    let i1 = i2 .before .before in
+    and-go (i1 .before .at-most .ensures) (i1 .if1 .left) (and-go (i2 .before .at-most2 .ensures) (i2 .if2 .left) (and-stop _ (c .before .at-most3 .ensures) (c .if3 .taken)))
 
 add-at-most-5 : tie.Need-add-at-most-5
 add-at-most-5 c = search needs
@@ -55,7 +60,11 @@ at-most-requires-4 c κs = search needs
 
 returns-4 : tie.Need-returns-4
 unfolding leAll
-returns-4 c = and-go (c .before .before .before .before .before .before .at-most .ensures) (c .before .before .before .before .before .if1 .left) (and-go (c .before .before .before .before .at-most2 .ensures) (c .before .before .before .if2 .left) (and-go (c .before .before .at-most3 .ensures) (c .before .if3 .left) (and-true _ (c .at-most4 .ensures))))
+returns-4 c =
+    let i3 = c .before in
+    let i2 = i3 .before .before in
+    let i1 = i2 .before .before in
+    and-go (i1 .before .at-most .ensures) (i1 .if1 .left) (and-go (i2 .before .at-most2 .ensures) (i2 .if2 .left) (and-go (i3 .before .at-most3 .ensures) (i3 .if3 .left) (and-true _ (c .at-most4 .ensures))))
 
 pub le-all-spec : {M : Type 1} → statement M
 le-all-spec =
