@@ -11,7 +11,7 @@ ghost use Rattle.instance.specs.Parts.{TermsOk};
 ghost use Rattle.instance.specs.Tables.{termAt};
 ghost use Rattle.normal.specs.Costs.{gapOf, dearOf, Spread, Settled};
 
-// Sets the first `count` numbers of a run to 0.
+// Sets every number of a run to 0.
 fn clear(run: &mut [u64])
     ensures { λ _. ⌜ ((i : ℕ) → getD (now (run .exit)) i 0 ≡ 0) ⌝ }
 {
