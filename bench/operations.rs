@@ -1,4 +1,4 @@
-//! Times of reading, writing and judging, as ratios to straightforward code in the same run. bench/run builds and runs it.
+//! Times of reading and judging, as ratios to straightforward code in the same run, and of writing. bench/run builds and runs it.
 
 use std::time::Instant;
 
