@@ -16,3 +16,5 @@ pub mod TableLaws
 pub mod CostLaws
 pub mod SettleLaws
 pub mod ObjectiveLaws
+pub mod PricedLaws
+pub mod NormalLaws

@@ -6,8 +6,11 @@ use Prim.Native.Nat.{ℕ, _+_, _-_, _*_, _≤_, _<_, min}
 use lib.Dec.{ltb}
 use lib.IntN.{ℤ}
 use lib.ListN.{length, getD}
-use Rattle.charging.specs.Rows.{span, bit}
-use Rattle.instance.specs.Limits.{maxCoef}
+use lib.Signed.{_≤ℤ_}
+use Rattle.charging.specs.Rows.{span, bit, cost}
+use Rattle.instance.specs.Limits.{maxCoef, maxBound}
+use Rattle.instance.specs.Terms.{sum}
+use Rattle.instance.specs.Meaning.{entryAt}
 use Rattle.normal.specs.Halves.{givesAll}
 use Rattle.normal.specs.Rows.{halvesAt}
 
@@ -36,3 +39,28 @@ pub record Settled (o j : ℕ) (sides d₀ d dear₀ dear : List ℕ) : Type 0 w
   pub dears : (v : ℕ) → v < j → getD dear (o + v) 0 ≡ dearOf (getD sides (v * 2) 0) (getD sides (v * 2 + 1) 0)
   pub gaps-below : (i : ℕ) → i < o → getD d i 0 ≡ getD d₀ i 0
   pub dears-below : (i : ℕ) → i < o → getD dear i 0 ≡ getD dear₀ i 0
+
+-- The value of objective i, counted from 0.
+abbrev pub valueOf : List ℤ → List ℤ → ℕ → ℕ → ℤ
+valueOf ts rs i a = sum ((entryAt ts rs i) .terms) a
+
+-- Objective i has its n numbers from i * n on, and its costs have the order of its values.
+pub record Priced (ts rs : List ℤ) (n i : ℕ) (d dear : List ℕ) : Type 0 where
+  pub small : (v : ℕ) → v < n → getD d (i * n + v) 0 ≤ maxBound
+  pub two : (v : ℕ) → v < n → getD dear (i * n + v) 0 < 2
+  pub cost-le : (a b : ℕ) → valueOf ts rs i a ≤ℤ valueOf ts rs i b → cost n d dear (i * n) (bit a) ≤ cost n d dear (i * n) (bit b)
+  pub value-le : (a b : ℕ) → cost n d dear (i * n) (bit a) ≤ cost n d dear (i * n) (bit b) → valueOf ts rs i a ≤ℤ valueOf ts rs i b
+
+-- Objective i is laid out; before its numbers all is as found.
+pub record PricedOne (ts rs : List ℤ) (n i : ℕ) (d₀ d dear₀ dear : List ℕ) : Type 0 where
+  pub gaps-same : length d ≡ length d₀
+  pub dear-same : length dear ≡ length dear₀
+  pub gaps-below : (j : ℕ) → j < i * n → getD d j 0 ≡ getD d₀ j 0
+  pub dears-below : (j : ℕ) → j < i * n → getD dear j 0 ≡ getD dear₀ j 0
+  pub priced : Priced ts rs n i d dear
+
+-- The first `count` objectives are laid out.
+pub record PricedAll (ts rs : List ℤ) (n count : ℕ) (d₀ d dear₀ dear : List ℕ) : Type 0 where
+  pub gaps-same : length d ≡ length d₀
+  pub dear-same : length dear ≡ length dear₀
+  pub each : (i : ℕ) → i < count → Priced ts rs n i d dear

@@ -1,5 +1,6 @@
 // Objectives in natural numbers: what each variable costs on each side.
 use crate::half_of;
+use instance::Entry;
 use instance::Term;
 ghost use mathlib.Core.Path.{_≡_};
 ghost use mathlib.Core.List.{List};
@@ -8,8 +9,9 @@ ghost use lib.IntN.{natAbs};
 ghost use lib.ListN.{length, getD};
 ghost use Rattle.instance.specs.Limits.{maxTerms, maxVariable, termRoom};
 ghost use Rattle.instance.specs.Parts.{TermsOk};
-ghost use Rattle.instance.specs.Tables.{termAt};
-ghost use Rattle.normal.specs.Costs.{gapOf, dearOf, Spread, Settled};
+ghost use Rattle.instance.specs.Tables.{termAt, objectivesIn, IsInstance};
+ghost use Rattle.instance.specs.Meaning.{meaning};
+ghost use Rattle.normal.specs.Costs.{gapOf, dearOf, Spread, Settled, PricedOne, PricedAll};
 
 // Sets every number of a run to 0.
 fn clear(run: &mut [u64])
@@ -74,5 +76,43 @@ pub fn settle(n: usize, sides: &[u64], o: usize, gaps: &mut [u64], dears: &mut [
         gaps[o + v] = gap_of(zero, one);
         dears[o + v] = dear_of(zero, one);
         v += 1;
+    }
+}
+
+// Lays objective i out, from place i * n on: the gap and the dear side of each variable.
+fn lay_objective(terms: &[i32], rows: &[i64], i: usize, n: usize, gaps: &mut [u64], dears: &mut [u8])
+    requires { ⌜ IsInstance (now terms) (now rows) ⌝ }
+    requires { ⌜ i < objectivesIn (now rows) ⌝ }
+    requires { ⌜ n ≡ (meaning (now terms) (now rows)) .variables ⌝ }
+    requires { ⌜ (i * n + n ≤ length (now gaps)) × (i * n + n ≤ length (now dears)) ⌝ }
+    ensures { λ _. ⌜ PricedOne (now (terms .entry)) (now (rows .entry)) n i (now (gaps .entry)) (now (gaps .exit)) (now (dears .entry)) (now (dears .exit)) ⌝ }
+{
+    let mut sides = [0u64; 128];
+    let e = Entry::at(rows, i);
+    let first = e.first;
+    let count = e.count;
+    spread(terms, first, count, n, &mut sides);
+    settle(n, &sides, i * n, gaps, dears);
+}
+
+// Lays the first `count` objectives out, the n numbers of each one after the other.
+pub fn lay_objectives(
+    terms: &[i32],
+    rows: &[i64],
+    count: usize,
+    n: usize,
+    gaps: &mut [u64],
+    dears: &mut [u8],
+)
+    requires { ⌜ IsInstance (now terms) (now rows) ⌝ }
+    requires { ⌜ count ≤ objectivesIn (now rows) ⌝ }
+    requires { ⌜ n ≡ (meaning (now terms) (now rows)) .variables ⌝ }
+    requires { ⌜ (count * n ≤ length (now gaps)) × (count * n ≤ length (now dears)) ⌝ }
+    ensures { λ _. ⌜ PricedAll (now (terms .entry)) (now (rows .entry)) n count (now (gaps .entry)) (now (gaps .exit)) (now (dears .entry)) (now (dears .exit)) ⌝ }
+{
+    let mut i: usize = 0;
+    while i < count {
+        lay_objective(terms, rows, i, n, gaps, dears);
+        i += 1;
     }
 }
