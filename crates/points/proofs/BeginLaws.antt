@@ -3,7 +3,8 @@
 use mathlib.Core.Path.{_≡_, refl, sym, subst, _∙_}
 use mathlib.Core.Logic.{_⊎_, inl, inr, ⊎-elim}
 use mathlib.Core.Bool.{Bool, true, false}
-use mathlib.Core.List.{List, [], _∷_, _++_, List·Memᴰ, List·Memᴰ·head, List·Memᴰ·tail, List·Memᴰ·cases-cons, List·Memᴰ·not-nil, Memᴰ·append-left, Memᴰ·append-right, List·Memᴰ·append-cases, List·Memᴰ·eq-of-singleton}
+use mathlib.Core.List.{List, [], _∷_, _++_, List·Memᴰ, List·Memᴰ·head, List·Memᴰ·tail, List·Memᴰ·cases-cons, List·Memᴰ·not-nil}
+use mathlib.Core.List.{Memᴰ·append-left, Memᴰ·append-right, List·Memᴰ·append-cases, List·Memᴰ·eq-of-singleton}
 use Prim.Native.Nat.{ℕ, _<_}
 use native.Mathlib.Decide.{decLt}
 use native.Mathlib.Omega.{arith}
@@ -13,7 +14,7 @@ use lib.Seq.{take-all}
 use Rattle.points.specs.Vectors.{leAll, LeAll, Dominates, Lex}
 use Rattle.points.specs.Fronts.{Candidate, StrictOrder, Rising, IsFront, Fresh, Begins, ComesNext}
 use Rattle.points.proofs.OrderLaws.{clash, lex-total, leAll-refl, leAll-trans, leAll-antisym, leAll-lex}
-use Rattle.points.proofs.FrontLaws.{rising-first, rising-rest, rising-same, rising-take, Within, After, candidate-same, apart-same, front-same}
+use Rattle.points.proofs.FrontLaws.{rising-first, rising-rest, rising-same, rising-take, Within, After, GoesOn, candidate-same, apart-same, front-same}
 
 -- ---- Fresh
 
@@ -123,7 +124,7 @@ module _ {C : Candidate → Type 0} {Before : ℕ → ℕ → Type 0} where
         (fresh-or xs y)
 
     -- y of the front is fresh of xs and comes after all of xs; or z of xs, which is in the front, is at most y: it has y's vector, so it is y.
-    begins-after : {xs ys : List Candidate} → Begins C Before xs → IsFront C Before ys → (y : Candidate) → List·Memᴰ y ys → List·Memᴰ y xs ⊎ After xs y
+    begins-after : {xs ys : List Candidate} → Begins C Before xs → IsFront C Before ys → GoesOn xs ys
     begins-after {xs} {ys} b g y m =
         ⊎-elim
         (λ r.

@@ -55,19 +55,26 @@ placed-rising c (x ∷ xs) r h = by (placed-rising c xs (rising-rest x xs r) (λ
           r,
         )
 
-module _ {Before : ℕ → ℕ → Type 0} (order : StrictOrder Before) (before : ℕ → ℕ → Bool) (decides : (a b : ℕ) → Decides (before a b) (Before a b)) where
-  -- ---- added
+-- ---- added
 
-  -- D has the candidates of C and c. Where one of xs covers c, xs is the front of D. Else those that c does not cover stay, and c is put in its
-  -- place. None of them has c's vector: one of the two would cover the other. Nor does one of the two dominate the other, as it would cover it.
-  -- What one taken out covers, c covers.
-  module _ {C D : Candidate → Type 0} (c : Candidate) (new : D c) (old : (x : Candidate) → C x → D x) (either : (x : Candidate) → D x → (x ≡ c) ⊎ C x) (wide : (x : Candidate) → C x → length (x .vector) ≡ length (c .vector)) (xs : List Candidate) (f : IsFront C Before xs) where
+-- D has the candidates of C and c, and their vectors have one length.
+record OneMore (C D : Candidate → Type 0) (c : Candidate) : Type 0 where
+  new : D c
+  old : (x : Candidate) → C x → D x
+  either : (x : Candidate) → D x → (x ≡ c) ⊎ C x
+  wide : (x : Candidate) → C x → length (x .vector) ≡ length (c .vector)
+
+module _ {Before : ℕ → ℕ → Type 0} (order : StrictOrder Before) (before : ℕ → ℕ → Bool) (decides : (a b : ℕ) → Decides (before a b) (Before a b)) where
+  -- Where one of xs covers c, xs is the front of D. Else those that c does not cover stay, and c is put in its place. None of them has c's
+  -- vector: one of the two would cover the other. Nor does one of the two dominate the other, as it would cover it. What one taken out
+  -- covers, c covers.
+  module _ {C D : Candidate → Type 0} (c : Candidate) (more : OneMore C D c) (xs : List Candidate) (f : IsFront C Before xs) where
     left-out : Covered Before xs c → IsFront D Before xs
     left-out p = record {
-      members = λ x m. old x (f .members x m);
+      members = λ x m. more .old x (f .members x m);
       rising = f .rising;
       apart = f .apart;
-      complete = λ d h. ⊎-elim (λ e. subst (Covered Before xs) (sym e) p) (f .complete d) (either d h);
+      complete = λ d h. ⊎-elim (λ e. subst (Covered Before xs) (sym e) p) (f .complete d) (more .either d h);
     }
 
     module _ (none : Covered Before xs c → ⊥) where
@@ -79,15 +86,15 @@ module _ {Before : ℕ → ℕ → Type 0} (order : StrictOrder Before) (before 
           let p = uncovered-member before decides c xs y m in
           ⊎-elim inl
           (⊎-elim (λ e. absurd (⊎-elim (none-covers y (p .0)) (p .1) (covers-either order y c e))) inr)
-          (lex-total (y .vector) (c .vector) (wide y (f .members y (p .0))))
+          (lex-total (y .vector) (c .vector) (more .wide y (f .members y (p .0))))
 
       put-in : IsFront D Before (placed c (uncovered before c xs))
       put-in = record {
         members = λ x m.
-            ⊎-elim (λ e. subst D (sym e) new) (λ n. old x (f .members x (uncovered-member before decides c xs x n .0))) (placed-member c (uncovered before c xs) x m);
+            ⊎-elim (λ e. subst D (sym e) (more .new)) (λ n. more .old x (f .members x (uncovered-member before decides c xs x n .0))) (placed-member c (uncovered before c xs) x m);
         rising = placed-rising c (uncovered before c xs) (uncovered-rising before decides c xs (f .rising)) stays-apart;
         apart = λ x y m n d. apart x y (placed-member c (uncovered before c xs) x m) (placed-member c (uncovered before c xs) y n) d;
-        complete = λ d h. ⊎-elim (λ e. by-new d (subst (Covers Before c) (sym e) (covers-self order c))) (λ k. by-old d (f .complete d k) (covers before c (f .complete d k .by)) refl) (either d h);
+        complete = λ d h. ⊎-elim (λ e. by-new d (subst (Covers Before c) (sym e) (covers-self order c))) (λ k. by-old d (f .complete d k) (covers before c (f .complete d k .by)) refl) (more .either d h);
       }
         where
           apart : (x y : Candidate) → (x ≡ c) ⊎ List·Memᴰ x (uncovered before c xs) → (y ≡ c) ⊎ List·Memᴰ y (uncovered before c xs) → Dominates (x .vector) (y .vector) → ⊥
@@ -117,17 +124,22 @@ module _ {Before : ℕ → ℕ → Type 0} (order : StrictOrder Before) (before 
 
   -- ---- frontBelow
   module _ (feasible : ℕ → Bool) (value : ℕ → List ℤ) (width : ℕ) (wide : (a : ℕ) → length (value a) ≡ width) where
+    -- Assignment n with its value.
+    abbrev valued : ℕ → Candidate
+    valued n = record { vector = value n; model = n }
+
     below-more : (n : ℕ) (x : Candidate) → Candidates feasible value n x → Candidates feasible value (suc n) x
     below-more n x h = record { fits = omega (arith, h .fits); feasible-is = h .feasible-is; value-is = h .value-is }
 
     -- A candidate below suc n is below n, or it is n with its value.
-    below-either : (n : ℕ) (x : Candidate) → Candidates feasible value (suc n) x → (x ≡ record { vector = value n; model = n }) ⊎ Candidates feasible value n x
+    below-either : (n : ℕ) (x : Candidate) → Candidates feasible value (suc n) x → (x ≡ valued n) ⊎ Candidates feasible value n x
     below-either n x h = by (decLt (x .model) n)
       where
-        by : Dec (x .model < n) → (x ≡ record { vector = value n; model = n }) ⊎ Candidates feasible value n x
+        by : Dec (x .model < n) → (x ≡ valued n) ⊎ Candidates feasible value n x
         by (yes l) = inr (record { fits = l; feasible-is = h .feasible-is; value-is = h .value-is })
         by (no l) = let e : x .model ≡ n = omega (arith, l, h .fits) in inl (candidate-same (h .value-is ∙ ap value e) e)
 
+    -- Assignment n is added to the front of those below n where it is feasible.
     pub front-below : (n : ℕ) → IsFront (Candidates feasible value n) Before (frontBelow feasible value before n)
     unfolding frontBelow addedIf Rising
     front-below zero = record {
@@ -138,12 +150,19 @@ module _ {Before : ℕ → ℕ → Type 0} (order : StrictOrder Before) (before 
     }
     front-below (suc n) = by (feasible n) refl (front-below n)
       where
-        by : (t : Bool) → feasible n ≡ t → IsFront (Candidates feasible value n) Before (frontBelow feasible value before n) → IsFront (Candidates feasible value (suc n)) Before (addedIf before t (record { vector = value n; model = n }) (frontBelow feasible value before n))
+        xs : List Candidate
+        xs = frontBelow feasible value before n
+
+        by : (t : Bool) → feasible n ≡ t → IsFront (Candidates feasible value n) Before xs → IsFront (Candidates feasible value (suc n)) Before (addedIf before t (valued n) xs)
         by true e f =
-            added-front (record { vector = value n; model = n }) (record { fits = omega arith; feasible-is = e; value-is = refl }) (below-more n)
-            (below-either n)
-            (λ x h. ap length (h .value-is) ∙ wide (x .model) ∙ sym (wide n))
-            (frontBelow feasible value before n)
+            added-front (valued n)
+            (record {
+              new = record { fits = omega arith; feasible-is = e; value-is = refl };
+              old = below-more n;
+              either = below-either n;
+              wide = λ x h. ap length (h .value-is) ∙ wide (x .model) ∙ sym (wide n);
+            })
+            xs
             f
         by false e f = record {
           members = λ x m. below-more n x (f .members x m);

@@ -93,7 +93,8 @@ module _ {Before : ℕ → ℕ → Type 0} (before : ℕ → ℕ → Bool) (deci
   uncovered-member c [] y m = absurd (List·Memᴰ·not-nil m)
   uncovered-member c (x ∷ xs) y m = by (λ n. let p = uncovered-member c xs y n in (List·Memᴰ·tail (p .0), p .1)) (covers before c x) refl m
     where
-      by : (List·Memᴰ y (uncovered before c xs) → List·Memᴰ y (x ∷ xs) × (Covers Before c y → ⊥)) → (t : Bool) → covers before c x ≡ t → List·Memᴰ y (cond t (uncovered before c xs) (x ∷ uncovered before c xs)) → List·Memᴰ y (x ∷ xs) × (Covers Before c y → ⊥)
+      by : (List·Memᴰ y (uncovered before c xs) → List·Memᴰ y (x ∷ xs) × (Covers Before c y → ⊥)) → (t : Bool) → covers before c x ≡ t
+          → List·Memᴰ y (cond t (uncovered before c xs) (x ∷ uncovered before c xs)) → List·Memᴰ y (x ∷ xs) × (Covers Before c y → ⊥)
       by f true e n = f n
       by f false e n =
           ⊎-elim (λ s. (List·Memᴰ·head s, λ k. covers-decides c x .no e (subst (Covers Before c) s k))) f (List·Memᴰ·cases-cons n)

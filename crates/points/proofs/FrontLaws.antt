@@ -19,7 +19,7 @@ module _ (x : Candidate) (xs : List Candidate) (r : Rising (x ∷ xs)) where
   unfolding Rising
   rising-rest = r .1
 
-pub irrefl-as : {a b : List ℤ} → a ≡ b → Lex a b → ⊥
+irrefl-as : {a b : List ℤ} → a ≡ b → Lex a b → ⊥
 irrefl-as {a} {b} e h = lex-irrefl b (subst (λ (v : List ℤ). Lex v b) e h)
 
 -- A rising list has a vector once.
@@ -39,6 +39,10 @@ Within xs ys = (x : Candidate) → List·Memᴰ x xs → List·Memᴰ x ys
 -- y comes after all of xs.
 abbrev pub After : List Candidate → Candidate → Type 0
 After xs y = (x : Candidate) → List·Memᴰ x xs → Lex (x .vector) (y .vector)
+
+-- Each of ys is one of xs or comes after all of them.
+abbrev pub GoesOn : List Candidate → List Candidate → Type 0
+GoesOn xs ys = (y : Candidate) → List·Memᴰ y ys → List·Memᴰ y xs ⊎ After xs y
 
 -- Of two rising lists with the same first element, what is after it in one is after it in the other.
 tail-within : (x : Candidate) (xs ys : List Candidate) → Rising (x ∷ xs) → Within (x ∷ xs) (x ∷ ys) → Within xs ys
@@ -68,14 +72,14 @@ rising-unique (x ∷ xs) (y ∷ ys) r s w v = by (rising-unique xs ys (rising-re
 
 -- Where xs rises within ys, which rises, and each of ys is one of xs or comes after all of them, ys begins with xs: the first x of xs is not
 -- before the first y of ys, as it is in ys, and y is not before x, as it is in xs or after x; so the two are one, and the rest is the same again.
-pub rising-take : (xs ys : List Candidate) → Rising xs → Rising ys → Within xs ys → ((y : Candidate) → List·Memᴰ y ys → List·Memᴰ y xs ⊎ After xs y) → take (length xs) ys ≡ xs
+pub rising-take : (xs ys : List Candidate) → Rising xs → Rising ys → Within xs ys → GoesOn xs ys → take (length xs) ys ≡ xs
 rising-take [] ys r s w v = refl
 rising-take (x ∷ xs) [] r s w v = absurd (List·Memᴰ·not-nil (w x (List·Memᴰ·head refl)))
 rising-take (x ∷ xs) (y ∷ ys) r s w v =
     by (rising-take xs ys (rising-rest x xs r) (rising-rest y ys s)) (List·Memᴰ·cases-cons (w x (List·Memᴰ·head refl)))
     (⊎-elim (λ m. ⊎-elim inl (λ n. inr (rising-first x xs r y n)) (List·Memᴰ·cases-cons m)) (λ a. inr (a x (List·Memᴰ·head refl))) (v y (List·Memᴰ·head refl)))
   where
-    rest : x ≡ y → (z : Candidate) → List·Memᴰ z ys → List·Memᴰ z xs ⊎ After xs z
+    rest : x ≡ y → GoesOn xs ys
     rest e z m =
         ⊎-elim
         (λ n.
@@ -83,12 +87,12 @@ rising-take (x ∷ xs) (y ∷ ys) r s w v =
         (λ a. inr (λ u n. a u (List·Memᴰ·tail n)))
         (v z (List·Memᴰ·tail m))
 
-    same : (Within xs ys → ((z : Candidate) → List·Memᴰ z ys → List·Memᴰ z xs ⊎ After xs z) → take (length xs) ys ≡ xs) → x ≡ y → (y ∷ take (length xs) ys) ≡ (x ∷ xs)
+    same : (Within xs ys → GoesOn xs ys → take (length xs) ys ≡ xs) → x ≡ y → (y ∷ take (length xs) ys) ≡ (x ∷ xs)
     same f e =
         let w′ : Within (x ∷ xs) (x ∷ ys) = subst (λ (c : Candidate). Within (x ∷ xs) (c ∷ ys)) (sym e) w in
         ap₂ _∷_ (sym e) (f (tail-within x xs ys r w′) (rest e))
 
-    by : (Within xs ys → ((z : Candidate) → List·Memᴰ z ys → List·Memᴰ z xs ⊎ After xs z) → take (length xs) ys ≡ xs) → (x ≡ y) ⊎ List·Memᴰ x ys → (y ≡ x) ⊎ Lex (x .vector) (y .vector) → (y ∷ take (length xs) ys) ≡ (x ∷ xs)
+    by : (Within xs ys → GoesOn xs ys → take (length xs) ys ≡ xs) → (x ≡ y) ⊎ List·Memᴰ x ys → (y ≡ x) ⊎ Lex (x .vector) (y .vector) → (y ∷ take (length xs) ys) ≡ (x ∷ xs)
     by f (inl e) q = same f e
     by f (inr p) (inl e) = same f (sym e)
     by f (inr p) (inr l) = absurd (lex-irrefl (x .vector) (lex-trans (x .vector) (y .vector) (x .vector) l (rising-first y ys s x p)))
@@ -101,7 +105,8 @@ pub candidate-same : {x y : Candidate} → x .vector ≡ y .vector → x .model 
 candidate-same v m = ap₂ candidate v m
 
 -- Where none of a list dominates another, of two of it the one at most the other in every place has the same vector.
-pub apart-same : {xs : List Candidate} → ((x y : Candidate) → List·Memᴰ x xs → List·Memᴰ y xs → Dominates (x .vector) (y .vector) → ⊥) → (x y : Candidate) → List·Memᴰ x xs → List·Memᴰ y xs → LeAll (x .vector) (y .vector) → x .vector ≡ y .vector
+pub apart-same : {xs : List Candidate} → ((x y : Candidate) → List·Memᴰ x xs → List·Memᴰ y xs → Dominates (x .vector) (y .vector) → ⊥)
+    → (x y : Candidate) → List·Memᴰ x xs → List·Memᴰ y xs → LeAll (x .vector) (y .vector) → x .vector ≡ y .vector
 apart-same apart x y m n h =
     ⊎-elim (λ l. absurd (apart x y m n (record { at-most = h; differs = λ e. irrefl-as e l })))
     (⊎-elim (λ e. e) (λ l. absurd (apart x y m n (record { at-most = h; differs = λ e. irrefl-as (sym e) l }))))
