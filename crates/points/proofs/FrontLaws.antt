@@ -4,7 +4,8 @@ use mathlib.Core.Logic.{_⊎_, inl, inr, ⊎-elim}
 use mathlib.Core.List.{List, [], _∷_, List·Memᴰ, List·Memᴰ·head, List·Memᴰ·tail, List·Memᴰ·cases-cons, List·Memᴰ·not-nil}
 use Prim.Native.Nat.{ℕ}
 use lib.IntN.{ℤ}
-use Rattle.points.specs.Vectors.{LeAll, Lex}
+use lib.ListN.{length, take}
+use Rattle.points.specs.Vectors.{LeAll, Dominates, Lex}
 use Rattle.points.specs.Fronts.{Candidate, StrictOrder, Covers, Rising, IsFront}
 use Rattle.points.proofs.OrderLaws.{lex-irrefl, lex-trans, lex-total, leAll-length, leAll-trans, leAll-antisym}
 
@@ -32,8 +33,16 @@ rising-same (z ∷ zs) r x y m n e = by (λ p q. rising-same zs (rising-rest z z
     by f (inr p) (inl q) = absurd (irrefl-as (ap (λ (c : Candidate). c .vector) (sym q) ∙ sym e) (rising-first z zs r x p))
     by f (inr p) (inr q) = f p q
 
-abbrev Within : List Candidate → List Candidate → Type 0
+abbrev pub Within : List Candidate → List Candidate → Type 0
 Within xs ys = (x : Candidate) → List·Memᴰ x xs → List·Memᴰ x ys
+
+-- y comes after all of xs.
+abbrev pub After : List Candidate → Candidate → Type 0
+After xs y = (x : Candidate) → List·Memᴰ x xs → Lex (x .vector) (y .vector)
+
+-- Each of ys is one of xs or comes after all of them.
+abbrev pub GoesOn : List Candidate → List Candidate → Type 0
+GoesOn xs ys = (y : Candidate) → List·Memᴰ y ys → List·Memᴰ y xs ⊎ After xs y
 
 -- Of two rising lists with the same first element, what is after it in one is after it in the other.
 tail-within : (x : Candidate) (xs ys : List Candidate) → Rising (x ∷ xs) → Within (x ∷ xs) (x ∷ ys) → Within xs ys
@@ -61,17 +70,52 @@ rising-unique (x ∷ xs) (y ∷ ys) r s w v = by (rising-unique xs ys (rising-re
     by f (inr p) (inr q) =
         absurd (lex-irrefl (x .vector) (lex-trans (x .vector) (y .vector) (x .vector) (rising-first x xs r y q) (rising-first y ys s x p)))
 
+-- Where xs rises within ys, which rises, and each of ys is one of xs or comes after all of them, ys begins with xs: the first x of xs is not
+-- before the first y of ys, as it is in ys, and y is not before x, as it is in xs or after x; so the two are one, and the rest is the same again.
+pub rising-take : (xs ys : List Candidate) → Rising xs → Rising ys → Within xs ys → GoesOn xs ys → take (length xs) ys ≡ xs
+rising-take [] ys r s w v = refl
+rising-take (x ∷ xs) [] r s w v = absurd (List·Memᴰ·not-nil (w x (List·Memᴰ·head refl)))
+rising-take (x ∷ xs) (y ∷ ys) r s w v =
+    by (rising-take xs ys (rising-rest x xs r) (rising-rest y ys s)) (List·Memᴰ·cases-cons (w x (List·Memᴰ·head refl)))
+    (⊎-elim (λ m. ⊎-elim inl (λ n. inr (rising-first x xs r y n)) (List·Memᴰ·cases-cons m)) (λ a. inr (a x (List·Memᴰ·head refl))) (v y (List·Memᴰ·head refl)))
+  where
+    rest : x ≡ y → GoesOn xs ys
+    rest e z m =
+        ⊎-elim
+        (λ n.
+        ⊎-elim (λ p. absurd (irrefl-as (ap (λ (c : Candidate). c .vector) (sym e ∙ sym p)) (rising-first y ys s z m))) inl (List·Memᴰ·cases-cons n))
+        (λ a. inr (λ u n. a u (List·Memᴰ·tail n)))
+        (v z (List·Memᴰ·tail m))
+
+    same : (Within xs ys → GoesOn xs ys → take (length xs) ys ≡ xs) → x ≡ y → (y ∷ take (length xs) ys) ≡ (x ∷ xs)
+    same f e =
+        let w′ : Within (x ∷ xs) (x ∷ ys) = subst (λ (c : Candidate). Within (x ∷ xs) (c ∷ ys)) (sym e) w in
+        ap₂ _∷_ (sym e) (f (tail-within x xs ys r w′) (rest e))
+
+    by : (Within xs ys → GoesOn xs ys → take (length xs) ys ≡ xs) → (x ≡ y) ⊎ List·Memᴰ x ys → (y ≡ x) ⊎ Lex (x .vector) (y .vector) → (y ∷ take (length xs) ys) ≡ (x ∷ xs)
+    by f (inl e) q = same f e
+    by f (inr p) (inl e) = same f (sym e)
+    by f (inr p) (inr l) = absurd (lex-irrefl (x .vector) (lex-trans (x .vector) (y .vector) (x .vector) l (rising-first y ys s x p)))
+
 -- ---- IsFront
 abbrev candidate : List ℤ → ℕ → Candidate
 candidate v m = record { vector = v; model = m }
 
+pub candidate-same : {x y : Candidate} → x .vector ≡ y .vector → x .model ≡ y .model → x ≡ y
+candidate-same v m = ap₂ candidate v m
+
+-- Where none of a list dominates another, of two of it the one at most the other in every place has the same vector.
+pub apart-same : {xs : List Candidate} → ((x y : Candidate) → List·Memᴰ x xs → List·Memᴰ y xs → Dominates (x .vector) (y .vector) → ⊥)
+    → (x y : Candidate) → List·Memᴰ x xs → List·Memᴰ y xs → LeAll (x .vector) (y .vector) → x .vector ≡ y .vector
+apart-same apart x y m n h =
+    ⊎-elim (λ l. absurd (apart x y m n (record { at-most = h; differs = λ e. irrefl-as e l })))
+    (⊎-elim (λ e. e) (λ l. absurd (apart x y m n (record { at-most = h; differs = λ e. irrefl-as (sym e) l }))))
+    (lex-total (x .vector) (y .vector) (leAll-length (x .vector) (y .vector) h))
+
 module _ {C : Candidate → Type 0} {Before : ℕ → ℕ → Type 0} (order : StrictOrder Before) where
   -- Of two of a front the one at most the other in every place has the same vector.
   pub front-same : {xs : List Candidate} → IsFront C Before xs → (x y : Candidate) → List·Memᴰ x xs → List·Memᴰ y xs → LeAll (x .vector) (y .vector) → x .vector ≡ y .vector
-  front-same f x y m n h =
-      ⊎-elim (λ l. absurd (f .apart x y m n (record { at-most = h; differs = λ e. irrefl-as e l })))
-      (⊎-elim (λ e. e) (λ l. absurd (f .apart x y m n (record { at-most = h; differs = λ e. irrefl-as (sym e) l }))))
-      (lex-total (x .vector) (y .vector) (leAll-length (x .vector) (y .vector) h))
+  front-same f = apart-same (f .apart)
 
   -- x is covered by y of the other front, and y by z of x's: z has x's vector, so it is x; then y has it too, and neither assignment is
   -- before the other.
@@ -90,8 +134,7 @@ module _ {C : Candidate → Type 0} {Before : ℕ → ℕ → Type 0} (order : S
       let n : y .model ≡ x .model =
       ⊎-elim (λ b. absurd (c .first (sym v) b)) (⊎-elim (λ e. e) (λ b. absurd (p .covers .first v b))) (order .either (y .model) (x .model))
       in
-      let e : y ≡ x = ap₂ candidate v n in
-      subst (λ (w : Candidate). List·Memᴰ w ys) e (p .member)
+      subst (λ (w : Candidate). List·Memᴰ w ys) (candidate-same v n) (p .member)
 
   pub front-unique : {xs ys : List Candidate} → IsFront C Before xs → IsFront C Before ys → xs ≡ ys
   front-unique {xs} {ys} f g = rising-unique xs ys (f .rising) (g .rising) (front-member f g) (front-member g f)

@@ -39,3 +39,25 @@ pub record IsFront (C : Candidate → Type 0) (Before : ℕ → ℕ → Type 0) 
   pub rising : Rising xs
   pub apart : (x y : Candidate) → List·Memᴰ x xs → List·Memᴰ y xs → Dominates (x .vector) (y .vector) → ⊥
   pub complete : (c : Candidate) → C c → Covered Before xs c
+
+-- ---- how a front is listed, point after point
+
+-- No candidate of xs is at most c in every place.
+abbrev pub Fresh : List Candidate → Candidate → Type 0
+Fresh xs c = (x : Candidate) → List·Memᴰ x xs → LeAll (x .vector) (c .vector) → ⊥
+
+-- xs is how the front begins: its members are candidates, strictly rising, none dominates another, each has the first assignment of its vector,
+-- and each candidate that is fresh comes after all of xs.
+pub record Begins (C : Candidate → Type 0) (Before : ℕ → ℕ → Type 0) (xs : List Candidate) : Type 0 where
+  pub members : (x : Candidate) → List·Memᴰ x xs → C x
+  pub rising : Rising xs
+  pub apart : (x y : Candidate) → List·Memᴰ x xs → List·Memᴰ y xs → Dominates (x .vector) (y .vector) → ⊥
+  pub first : (x c : Candidate) → List·Memᴰ x xs → C c → c .vector ≡ x .vector → Before (c .model) (x .model) → ⊥
+  pub after : (c : Candidate) → C c → Fresh xs c → (x : Candidate) → List·Memᴰ x xs → Lex (x .vector) (c .vector)
+
+-- x comes next: of the fresh candidates none has a vector before its, and of those with its vector none has an assignment before its.
+pub record ComesNext (C : Candidate → Type 0) (Before : ℕ → ℕ → Type 0) (xs : List Candidate) (x : Candidate) : Type 0 where
+  pub member : C x
+  pub fresh : Fresh xs x
+  pub least : (c : Candidate) → C c → Fresh xs c → Lex (c .vector) (x .vector) → ⊥
+  pub first : (c : Candidate) → C c → c .vector ≡ x .vector → Before (c .model) (x .model) → ⊥
