@@ -12,6 +12,7 @@ use Rattle.instance.specs.Limits.{maxTerms, maxBound}
 use Rattle.instance.specs.Parts.{TermsOk}
 use Rattle.instance.specs.Terms.{Term}
 use Rattle.instance.specs.Rows.{Entry}
+use Rattle.instance.specs.Layout.{allTerms}
 use Rattle.instance.specs.Lists.{tabulate}
 use Rattle.instance.specs.Tables.{termAt, firstAt, countAt, boundAt, entriesIn, termsIn, termsBefore, IsInstance}
 use Rattle.instance.specs.Meaning.{termsAt, entryAt}
@@ -45,6 +46,15 @@ row-few e =
     let p = wanted-few (not (eqb (e .kind) 3)) (halfRow false e) in
     let q = wanted-few (not (eqb (e .kind) 2)) (halfRow true e) in
     (omega (arith, length-append x y, p .0, q .0), omega (arith, ap length (allHalves-append x y), length-append (allHalves x) (allHalves y), p .1, q .1, length-map (e .terms) (halfOf false), length-map (e .terms) (halfOf true)))
+
+-- so of all rows
+pub all-few : (es : List Entry) → (length (halfRowsAll es) ≤ length es + length es) × (length (allHalves (halfRowsAll es)) ≤ length (allTerms es) + length (allTerms es))
+unfolding halfRowsAll allTerms allHalves
+all-few [] = (omega arith, omega arith)
+all-few (e ∷ es) =
+    let r = row-few e in
+    let a = all-few es in
+    (omega (arith, r .0, a .0, length-append (halfRowsOf e) (halfRowsAll es)), omega (arith, r .1, a .1, ap length (allHalves-append (halfRowsOf e) (halfRowsAll es)), length-append (allHalves (halfRowsOf e)) (allHalves (halfRowsAll es)), length-append (e .terms) (allTerms es)))
 
 -- ---- the rows so far
 

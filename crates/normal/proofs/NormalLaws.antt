@@ -6,7 +6,7 @@ use native.Mathlib.Nat.{mul-le-mul-right, suc-mul, mod-lt, div-add-mod'}
 use native.Mathlib.Omega.{arith}
 use native.Mathlib.Decide.{decLt}
 use lib.IntN.{ℤ, natAbs}
-use lib.ListN.{length, getD, take, List·getD-eq-default}
+use lib.ListN.{length, getD, take, length-append, List·getD-eq-default}
 use lib.Seq.{getD-take, length-take-le}
 use Rattle.charging.specs.Rows.{bit, Table, Meets, Costs, cost}
 use Rattle.instance.specs.Limits.{maxTerms, maxRows, maxBound}
@@ -28,6 +28,7 @@ use Rattle.normal.specs.Normal.{RowsHold, Normal}
 use Rattle.normal.proofs.SpanLaws.{variablesOf, offsOf, weightsOf}
 use Rattle.normal.proofs.MeetLaws.{Kinds, meets-all, all-meets, hold-met, met-hold}
 use Rattle.normal.proofs.TableLaws.{HalfOk, rows-ok, rows-table}
+use Rattle.normal.proofs.LayLaws.{all-few}
 use Rattle.normal.proofs.PricedLaws.{priced-frame}
 
 -- what holds of five lists holds of lists equal to them
@@ -81,7 +82,7 @@ module _ {ts rs : List ℤ} {n k : ℕ} {d₀ d dear₀ dear : List ℕ} (p : Pr
   pub taken-priced : (i : ℕ) → i < k → Priced ts rs n i (take (k * n) d) (take (k * n) dear)
   taken-priced i h = priced-frame ts rs n i (λ v l. getD-take (k * n) d (i * n + v) 0 (inside i v h l)) (λ v l. getD-take (k * n) dear (i * n + v) 0 (inside i v h l)) (p .each i h)
 
-  taken-small : (j : ℕ) → getD (take (k * n) d) j 0 ≤ 2 ^ 34
+  pub taken-small : (j : ℕ) → getD (take (k * n) d) j 0 ≤ 2 ^ 34
   taken-small j = by (decLt j (k * n))
     where
       by : Dec (j < k * n) → getD (take (k * n) d) j 0 ≤ 2 ^ 34
@@ -100,20 +101,27 @@ module _ {ts rs : List ℤ} {n k : ℕ} {d₀ d dear₀ dear : List ℕ} (p : Pr
 
 -- ---- both
 
-pub normal-is : {ts rs : List ℤ} → IsInstance ts rs → {n k : ℕ} → n ≡ (meaning ts rs) .variables → k ≡ objectivesIn rs → {starts vs os ws needs : List ℕ} {halves used : ℕ}
-    → {m : ℕ} → m ≡ rowsIn rs → Laid (halfRowsAll (tabulate (entryAt ts rs) k m)) starts vs os ws needs halves used → halves ≤ 2 ^ 16 → used ≤ 2 ^ 24
-    → {d₀ d dear₀ dear : List ℕ} → PricedAll ts rs n k d₀ d dear₀ dear → k * n ≤ length d → k * n ≤ length dear
-    → Normal ts rs n k (take (halves + 1) starts) (take used vs) (take used os) (take used ws) (take halves needs) (take (k * n) d) (take (k * n) dear)
-normal-is {ts} {rs} is {n} {k} ne ke {starts} {vs} {os} {ws} {needs} {halves} {used} {m} me l few short {d₀} {d} {dear₀} {dear} p dl el = record {
-  is = is;
-  variables = ne;
-  objectives = ke;
-  table = subst (λ (v : ℕ). Table v (take (halves + 1) starts) (take used vs) (take used os) (take used ws) (take halves needs)) (sym ne) (laid-table is all l few short);
-  rows-hold = laid-hold is all l few short;
-  rows-met = laid-met is all l few short;
-  costs = taken-costs p dl el;
-  priced = taken-priced p dl el;
-}
-  where
-    all : halfRowsAll (tabulate (entryAt ts rs) k m) ≡ halfRowsAll ((meaning ts rs) .rows)
-    all = ap halfRowsAll (ap₂ (λ (a b : ℕ). tabulate (entryAt ts rs) a b) ke me)
+module _ {ts rs : List ℤ} (is : IsInstance ts rs) {k m : ℕ} (ke : k ≡ objectivesIn rs) (me : m ≡ rowsIn rs) {starts vs os ws needs : List ℕ} {halves used : ℕ} (l : Laid (halfRowsAll (tabulate (entryAt ts rs) k m)) starts vs os ws needs halves used) where
+  all : halfRowsAll (tabulate (entryAt ts rs) k m) ≡ halfRowsAll ((meaning ts rs) .rows)
+  all = ap halfRowsAll (ap₂ (λ (a b : ℕ). tabulate (entryAt ts rs) a b) ke me)
+
+  pub few-halves : halves ≤ maxRows + maxRows
+  few-halves = omega (arith, l .halves-is, ap length all, all-few ((meaning ts rs) .rows) .0, instance-within is .few-rows)
+
+  pub few-terms : used ≤ maxTerms + maxTerms
+  few-terms =
+      omega
+      (arith, l .used-is, ap (λ (hs : List HalfRow). length (allHalves hs)) all, all-few ((meaning ts rs) .rows) .1, instance-within is .few-terms, ap length (allTerms-append ((meaning ts rs) .objectives) ((meaning ts rs) .rows)), length-append (allTerms ((meaning ts rs) .objectives)) (allTerms ((meaning ts rs) .rows)))
+
+  pub normal-is : {n : ℕ} → n ≡ (meaning ts rs) .variables → {d₀ d dear₀ dear : List ℕ} → PricedAll ts rs n k d₀ d dear₀ dear → k * n ≤ length d → k * n ≤ length dear
+      → Normal ts rs n k (take (halves + 1) starts) (take used vs) (take used os) (take used ws) (take halves needs) (take (k * n) d) (take (k * n) dear)
+  normal-is {n} ne p dl el = record {
+    is = is;
+    variables = ne;
+    objectives = ke;
+    table = subst (λ (v : ℕ). Table v (take (halves + 1) starts) (take used vs) (take used os) (take used ws) (take halves needs)) (sym ne) (laid-table is all l (omega (arith, few-halves)) (omega (arith, few-terms)));
+    rows-hold = laid-hold is all l (omega (arith, few-halves)) (omega (arith, few-terms));
+    rows-met = laid-met is all l (omega (arith, few-halves)) (omega (arith, few-terms));
+    costs = taken-costs p dl el;
+    priced = taken-priced p dl el;
+  }

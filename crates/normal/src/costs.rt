@@ -1,4 +1,5 @@
 // Objectives in natural numbers: what each variable costs on each side.
+use crate::fill::Filled;
 use crate::half_of;
 use instance::Entry;
 use instance::Term;
@@ -80,14 +81,21 @@ pub fn settle(n: usize, sides: &[u64], o: usize, gaps: &mut [u64], dears: &mut [
 }
 
 // Lays objective i out, from place i * n on: the gap and the dear side of each variable.
-fn lay_objective(terms: &[i32], rows: &[i64], i: usize, n: usize, gaps: &mut [u64], dears: &mut [u8])
+fn lay_objective(
+    terms: &[i32],
+    rows: &[i64],
+    i: usize,
+    n: usize,
+    gaps: &mut [u64],
+    dears: &mut [u8],
+)
     requires { ⌜ IsInstance (now terms) (now rows) ⌝ }
     requires { ⌜ i < objectivesIn (now rows) ⌝ }
     requires { ⌜ n ≡ (meaning (now terms) (now rows)) .variables ⌝ }
     requires { ⌜ (i * n + n ≤ length (now gaps)) × (i * n + n ≤ length (now dears)) ⌝ }
     ensures { λ _. ⌜ PricedOne (now (terms .entry)) (now (rows .entry)) n i (now (gaps .entry)) (now (gaps .exit)) (now (dears .entry)) (now (dears .exit)) ⌝ }
 {
-    let mut sides = [0u64; 128];
+    let mut sides = [0u64; Filled::SIDES];
     let e = Entry::at(rows, i);
     let first = e.first;
     let count = e.count;

@@ -1,6 +1,8 @@
 // The rows of an instance as half rows, one after the other.
 use crate::rows::add_half;
 use instance::Entry;
+use instance::Instance;
+use instance::Term;
 ghost use Prim.Native.Nat.{_+_, _≤_};
 ghost use lib.IntN.{natAbs};
 ghost use lib.ListN.{length};
@@ -17,6 +19,20 @@ ghost use Rattle.normal.specs.Grown.{ifWanted, halfRowsOf, halfRowsAll, 
 pub struct Filled {
     pub halves: usize,
     pub used: usize,
+}
+
+// The room that the normal tables of any instance take.
+impl Filled {
+    // Half rows: a row has two at most.
+    pub const HALVES: usize = Instance::MAX_ROWS * 2;
+    // Where each half row's terms begin, and where the last one's end.
+    pub const STARTS: usize = Filled::HALVES + 1;
+    // Terms of half rows.
+    pub const TERMS: usize = Instance::MAX_TERMS * 2;
+    // Gaps and dear sides of all objectives.
+    pub const GAPS: usize = Instance::MAX_OBJECTIVES * Term::MAX_VARIABLE as usize;
+    // Two sides for each variable.
+    pub const SIDES: usize = Term::MAX_VARIABLE as usize * 2;
 }
 
 // Lays one half row out if it is wanted.

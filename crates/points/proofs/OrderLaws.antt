@@ -14,7 +14,7 @@ use Rattle.integers.proofs.SignedLaws.{up, dn, lt-parts, le-parts, same-parts}
 use Rattle.points.specs.Vectors.{leAll, LeAll, lex, Lex}
 
 -- ---- numbers
-lt-of : (x y : ℤ) → ltZ x y ≡ true → up x + dn y < up y + dn x
+pub lt-of : (x y : ℤ) → ltZ x y ≡ true → up x + dn y < up y + dn x
 lt-of x y e = ltb-true (up x + dn y) (up y + dn x) (sym (lt-parts x y) ∙ e)
 
 not-lt-of : (x y : ℤ) → ltZ x y ≡ false → up y + dn x ≤ up x + dn y
@@ -29,7 +29,7 @@ lt-no x y h = lt-parts x y ∙ le-ltb (up x + dn y) (up y + dn x) h
 le-of : (x y : ℤ) → leZ x y ≡ true → up x + dn y ≤ up y + dn x
 le-of x y e = leb-true (up x + dn y) (up y + dn x) (sym (le-parts x y) ∙ e)
 
-le-yes : (x y : ℤ) → up x + dn y ≤ up y + dn x → leZ x y ≡ true
+pub le-yes : (x y : ℤ) → up x + dn y ≤ up y + dn x → leZ x y ≡ true
 le-yes x y h = le-parts x y ∙ le-leb (up x + dn y) (up y + dn x) h
 
 pub clash {ℓ} : {X : Type ℓ} {t : Bool} → t ≡ true → t ≡ false → X
@@ -55,11 +55,11 @@ module _ (x y : ℤ) (xs ys : List ℤ) where
   lex-next e f = ap (λ (t : Bool). cond t true (cond (ltZ y x) false (lex xs ys))) e ∙ ap (λ (t : Bool). cond t false (lex xs ys)) f
 
 -- The first values differ, or are equal and the rest decides.
-data Compared (x y : ℤ) (xs ys : List ℤ) : Type 0 where
+pub data Compared (x y : ℤ) (xs ys : List ℤ) : Type 0 where
   less : ltZ x y ≡ true → Compared x y xs ys
   rest : x ≡ y → Lex xs ys → Compared x y xs ys
 
-compare : (x y : ℤ) (xs ys : List ℤ) → Lex (x ∷ xs) (y ∷ ys) → Compared x y xs ys
+pub compare : (x y : ℤ) (xs ys : List ℤ) → Lex (x ∷ xs) (y ∷ ys) → Compared x y xs ys
 compare x y xs ys h = by (ltZ x y) refl (ltZ y x) refl
   where
     by : (t : Bool) → ltZ x y ≡ t → (u : Bool) → ltZ y x ≡ u → Compared x y xs ys
@@ -113,15 +113,15 @@ and-next : (a b : Bool) → (a && b) ≡ true → b ≡ true
 and-next true b e = e
 and-next false b e = absurd (subst T (sym e) tt)
 
-and-both : (a b : Bool) → a ≡ true → b ≡ true → (a && b) ≡ true
+pub and-both : (a b : Bool) → a ≡ true → b ≡ true → (a && b) ≡ true
 and-both a b e f = ap (λ (t : Bool). t && b) e ∙ f
 
 module _ (x y : ℤ) (xs ys : List ℤ) (h : LeAll (x ∷ xs) (y ∷ ys)) where
-  le-head : up x + dn y ≤ up y + dn x
+  pub le-head : up x + dn y ≤ up y + dn x
   unfolding leAll
   le-head = le-of x y (and-first (leZ x y) (leAll xs ys) h)
 
-  le-tail : LeAll xs ys
+  pub le-tail : LeAll xs ys
   unfolding leAll
   le-tail = and-next (leZ x y) (leAll xs ys) h
 

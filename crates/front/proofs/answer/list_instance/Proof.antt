@@ -1,0 +1,158 @@
+use mathlib.Core.Path.{_≡_, refl, sym, ap, _∙_, subst}
+use Prim.Native.Nat.{ℕ, suc, _+_, _*_, _-_, _^_, _≤_, _<_}
+use native.Mathlib.Nat.{mul-le-mul-right, suc-mul}
+use native.Mathlib.Omega.{arith}
+use lib.ListN.{length, getD, take}
+use lib.Seq.{length-take-le}
+use Rattle.instance.proofs.InstanceLaws.{variables-le}
+use Rattle.normal.proofs.NormalLaws.{few-halves, few-terms, taken-small, normal-is}
+use borrow.Author.Needs.{needs}
+use Rattle.front.proofs.answer.list_instance.Statement.{statement}
+use Rattle.front.proofs.answer.list_instance.Tie as tie
+use Rattle.front.proofs.answer.list_instance.Reads as reads
+use Rattle.front.proofs.answer.list_instance.Lts as lts
+use Rattle.front.proofs.listing.list_points.Reads as list-points-reads
+use Rattle.front.proofs.order.by_share.Reads as by-share-reads
+use Rattle.normal.proofs.costs.lay_objectives.Reads as lay-objectives-reads
+use Rattle.normal.proofs.fill.lay_rows.Reads as lay-rows-reads
+
+slice-aggregate-lay-rows : tie.Need-slice-aggregate-lay-rows
+slice-aggregate-lay-rows c = search needs
+
+slice-aggregate-lay-rows-2 : tie.Need-slice-aggregate-lay-rows-2
+slice-aggregate-lay-rows-2 c = search needs
+
+slice-aggregate-lay-rows-3 : tie.Need-slice-aggregate-lay-rows-3
+slice-aggregate-lay-rows-3 c = search needs
+
+slice-aggregate-lay-rows-4 : tie.Need-slice-aggregate-lay-rows-4
+slice-aggregate-lay-rows-4 c = search needs
+
+slice-aggregate-lay-rows-5 : tie.Need-slice-aggregate-lay-rows-5
+slice-aggregate-lay-rows-5 c = search needs
+
+lay-rows-requires : tie.Need-lay-rows-requires
+lay-rows-requires c κs = ((c .before .before .before .before .before .before .pre .0) .is, (omega (arith, (c .before .before .before .before .before .before .pre .0) .objectives, (c .before .before .before .before .before .before .pre .0) .is .few-objectives, (c .before .before .before .before .before .before .pre .0) .variables, variables-le ((c .before .before .before .before .before .before .pre .0) .is), (c .before .before .before .before .before .before .pre .0) .rows, (c .before .before .before .before .before .before .pre .0) .is .few-rows), record { starts-room = omega (arith, (c .before .before .before .before .before .before .pre .0) .objectives, (c .before .before .before .before .before .before .pre .0) .is .few-objectives, (c .before .before .before .before .before .before .pre .0) .variables, variables-le ((c .before .before .before .before .before .before .pre .0) .is), (c .before .before .before .before .before .before .pre .0) .rows, (c .before .before .before .before .before .before .pre .0) .is .few-rows); variables-room = omega arith; offs-room = omega arith; weights-room = omega arith; needs-room = omega (arith, (c .before .before .before .before .before .before .pre .0) .objectives, (c .before .before .before .before .before .before .pre .0) .is .few-objectives, (c .before .before .before .before .before .before .pre .0) .variables, variables-le ((c .before .before .before .before .before .before .pre .0) .is), (c .before .before .before .before .before .before .pre .0) .rows, (c .before .before .before .before .before .before .pre .0) .is .few-rows) }))
+
+slice-aggregate-lay-objectives : tie.Need-slice-aggregate-lay-objectives
+slice-aggregate-lay-objectives c = search needs
+
+slice-aggregate-lay-objectives-2 : tie.Need-slice-aggregate-lay-objectives-2
+slice-aggregate-lay-objectives-2 c = search needs
+
+lay-objectives-requires : tie.Need-lay-objectives-requires
+lay-objectives-requires c κs = ((c .before .before .before .before .before .before .before .before .before .before .before .before .before .before .pre .0) .is, (omega (arith, (c .before .before .before .before .before .before .before .before .before .before .before .before .before .before .pre .0) .objectives, (c .before .before .before .before .before .before .before .before .before .before .before .before .before .before .pre .0) .is .few-objectives, (c .before .before .before .before .before .before .before .before .before .before .before .before .before .before .pre .0) .variables, variables-le ((c .before .before .before .before .before .before .before .before .before .before .before .before .before .before .pre .0) .is), (c .before .before .before .before .before .before .before .before .before .before .before .before .before .before .pre .0) .rows, (c .before .before .before .before .before .before .before .before .before .before .before .before .before .before .pre .0) .is .few-rows), ((c .before .before .before .before .before .before .before .before .before .before .before .before .before .before .pre .0) .variables, (omega (arith, (c .before .before .before .before .before .before .before .before .before .before .before .before .before .before .pre .0) .objectives, (c .before .before .before .before .before .before .before .before .before .before .before .before .before .before .pre .0) .is .few-objectives, (c .before .before .before .before .before .before .before .before .before .before .before .before .before .before .pre .0) .variables, variables-le ((c .before .before .before .before .before .before .before .before .before .before .before .before .before .before .pre .0) .is), (c .before .before .before .before .before .before .before .before .before .before .before .before .before .before .pre .0) .rows, (c .before .before .before .before .before .before .before .before .before .before .before .before .before .before .pre .0) .is .few-rows, mul-le-mul-right {m = c .before .before .before .before .before .before .before .before .before .before .before .before .before .before .args .sizes .objectives} {n = 4} (c .before .before .before .before .before .before .before .before .before .before .before .before .before .before .args .sizes .variables) (omega (arith, (c .before .before .before .before .before .before .before .before .before .before .before .before .before .before .pre .0) .objectives, (c .before .before .before .before .before .before .before .before .before .before .before .before .before .before .pre .0) .is .few-objectives))), omega (arith, (c .before .before .before .before .before .before .before .before .before .before .before .before .before .before .pre .0) .objectives, (c .before .before .before .before .before .before .before .before .before .before .before .before .before .before .pre .0) .is .few-objectives, (c .before .before .before .before .before .before .before .before .before .before .before .before .before .before .pre .0) .variables, variables-le ((c .before .before .before .before .before .before .before .before .before .before .before .before .before .before .pre .0) .is), (c .before .before .before .before .before .before .before .before .before .before .before .before .before .before .pre .0) .rows, (c .before .before .before .before .before .before .before .before .before .before .before .before .before .before .pre .0) .is .few-rows, mul-le-mul-right {m = c .before .before .before .before .before .before .before .before .before .before .before .before .before .before .args .sizes .objectives} {n = 4} (c .before .before .before .before .before .before .before .before .before .before .before .before .before .before .args .sizes .variables) (omega (arith, (c .before .before .before .before .before .before .before .before .before .before .before .before .before .before .pre .0) .objectives, (c .before .before .before .before .before .before .before .before .before .before .before .before .before .before .pre .0) .is .few-objectives)))))))
+
+mul-numbers : tie.Need-mul-numbers
+mul-numbers c = omega (arith, (c .before .before .before .before .before .before .before .before .before .before .before .before .before .before .before .before .before .pre .0) .objectives, (c .before .before .before .before .before .before .before .before .before .before .before .before .before .before .before .before .before .pre .0) .is .few-objectives, (c .before .before .before .before .before .before .before .before .before .before .before .before .before .before .before .before .before .pre .0) .variables, variables-le ((c .before .before .before .before .before .before .before .before .before .before .before .before .before .before .before .before .before .pre .0) .is), (c .before .before .before .before .before .before .before .before .before .before .before .before .before .before .before .before .before .pre .0) .rows, (c .before .before .before .before .before .before .before .before .before .before .before .before .before .before .before .before .before .pre .0) .is .few-rows, mul-le-mul-right {m = c .before .before .before .before .before .before .before .before .before .before .before .before .before .before .before .before .before .args .sizes .objectives} {n = 4} (c .before .before .before .before .before .before .before .before .before .before .before .before .before .before .before .before .before .args .sizes .variables) (omega (arith, (c .before .before .before .before .before .before .before .before .before .before .before .before .before .before .before .before .before .pre .0) .objectives, (c .before .before .before .before .before .before .before .before .before .before .before .before .before .before .before .before .before .pre .0) .is .few-objectives)))
+
+array-share-prefix-gaps : tie.Need-array-share-prefix-gaps
+array-share-prefix-gaps c = omega (arith, (c .before .before .before .before .before .before .before .before .before .before .before .before .before .before .before .before .before .pre .0) .objectives, (c .before .before .before .before .before .before .before .before .before .before .before .before .before .before .before .before .before .pre .0) .is .few-objectives, (c .before .before .before .before .before .before .before .before .before .before .before .before .before .before .before .before .before .pre .0) .variables, variables-le ((c .before .before .before .before .before .before .before .before .before .before .before .before .before .before .before .before .before .pre .0) .is), (c .before .before .before .before .before .before .before .before .before .before .before .before .before .before .before .before .before .pre .0) .rows, (c .before .before .before .before .before .before .before .before .before .before .before .before .before .before .before .before .before .pre .0) .is .few-rows, mul-le-mul-right {m = c .before .before .before .before .before .before .before .before .before .before .before .before .before .before .before .before .before .args .sizes .objectives} {n = 4} (c .before .before .before .before .before .before .before .before .before .before .before .before .before .before .before .before .before .args .sizes .variables) (omega (arith, (c .before .before .before .before .before .before .before .before .before .before .before .before .before .before .before .before .before .pre .0) .objectives, (c .before .before .before .before .before .before .before .before .before .before .before .before .before .before .before .before .before .pre .0) .is .few-objectives)), (c .before .before .lay-objectives .ensures) .gaps-same)
+
+slice-aggregate-by-share : tie.Need-slice-aggregate-by-share
+slice-aggregate-by-share c = sym (length-take-le _ _ (omega (arith, (c .before .before .before .before .before .before .before .before .before .before .before .before .before .before .before .before .before .before .pre .0) .objectives, (c .before .before .before .before .before .before .before .before .before .before .before .before .before .before .before .before .before .before .pre .0) .is .few-objectives, (c .before .before .before .before .before .before .before .before .before .before .before .before .before .before .before .before .before .before .pre .0) .variables, variables-le ((c .before .before .before .before .before .before .before .before .before .before .before .before .before .before .before .before .before .before .pre .0) .is), (c .before .before .before .before .before .before .before .before .before .before .before .before .before .before .before .before .before .before .pre .0) .rows, (c .before .before .before .before .before .before .before .before .before .before .before .before .before .before .before .before .before .before .pre .0) .is .few-rows, mul-le-mul-right {m = c .before .before .before .before .before .before .before .before .before .before .before .before .before .before .before .before .before .before .args .sizes .objectives} {n = 4} (c .before .before .before .before .before .before .before .before .before .before .before .before .before .before .before .before .before .before .args .sizes .variables) (omega (arith, (c .before .before .before .before .before .before .before .before .before .before .before .before .before .before .before .before .before .before .pre .0) .objectives, (c .before .before .before .before .before .before .before .before .before .before .before .before .before .before .before .before .before .before .pre .0) .is .few-objectives)), (c .before .before .before .lay-objectives .ensures) .gaps-same)))
+
+slice-aggregate-by-share-2 : tie.Need-slice-aggregate-by-share-2
+slice-aggregate-by-share-2 c = search needs
+
+by-share-requires : tie.Need-by-share-requires
+by-share-requires c κs = (omega (arith, (c .before .before .before .before .before .before .before .before .before .before .before .before .before .before .before .before .before .before .before .pre .0) .objectives, (c .before .before .before .before .before .before .before .before .before .before .before .before .before .before .before .before .before .before .before .pre .0) .is .few-objectives, (c .before .before .before .before .before .before .before .before .before .before .before .before .before .before .before .before .before .before .before .pre .0) .variables, variables-le ((c .before .before .before .before .before .before .before .before .before .before .before .before .before .before .before .before .before .before .before .pre .0) .is), (c .before .before .before .before .before .before .before .before .before .before .before .before .before .before .before .before .before .before .before .pre .0) .rows, (c .before .before .before .before .before .before .before .before .before .before .before .before .before .before .before .before .before .before .before .pre .0) .is .few-rows), omega (arith, (c .before .before .before .before .before .before .before .before .before .before .before .before .before .before .before .before .before .before .before .pre .0) .objectives, (c .before .before .before .before .before .before .before .before .before .before .before .before .before .before .before .before .before .before .before .pre .0) .is .few-objectives, (c .before .before .before .before .before .before .before .before .before .before .before .before .before .before .before .before .before .before .before .pre .0) .variables, variables-le ((c .before .before .before .before .before .before .before .before .before .before .before .before .before .before .before .before .before .before .before .pre .0) .is), (c .before .before .before .before .before .before .before .before .before .before .before .before .before .before .before .before .before .before .before .pre .0) .rows, (c .before .before .before .before .before .before .before .before .before .before .before .before .before .before .before .before .before .before .before .pre .0) .is .few-rows), omega (arith, length-take-le ((c .before .before .before .before .before .before .before .before .before .before .before .before .before .before .before .before .before .before .before .args .sizes .objectives) * (c .before .before .before .before .before .before .before .before .before .before .before .before .before .before .before .before .before .before .before .args .sizes .variables)) (c .before .before .before .before .lay-objectives .last .1 .1 .1 .1 .0) (omega (arith, (c .before .before .before .before .before .before .before .before .before .before .before .before .before .before .before .before .before .before .before .pre .0) .objectives, (c .before .before .before .before .before .before .before .before .before .before .before .before .before .before .before .before .before .before .before .pre .0) .is .few-objectives, (c .before .before .before .before .before .before .before .before .before .before .before .before .before .before .before .before .before .before .before .pre .0) .variables, variables-le ((c .before .before .before .before .before .before .before .before .before .before .before .before .before .before .before .before .before .before .before .pre .0) .is), (c .before .before .before .before .before .before .before .before .before .before .before .before .before .before .before .before .before .before .before .pre .0) .rows, (c .before .before .before .before .before .before .before .before .before .before .before .before .before .before .before .before .before .before .before .pre .0) .is .few-rows, mul-le-mul-right {m = c .before .before .before .before .before .before .before .before .before .before .before .before .before .before .before .before .before .before .before .args .sizes .objectives} {n = 4} (c .before .before .before .before .before .before .before .before .before .before .before .before .before .before .before .before .before .before .before .args .sizes .variables) (omega (arith, (c .before .before .before .before .before .before .before .before .before .before .before .before .before .before .before .before .before .before .before .pre .0) .objectives, (c .before .before .before .before .before .before .before .before .before .before .before .before .before .before .before .before .before .before .before .pre .0) .is .few-objectives)), (c .before .before .before .before .lay-objectives .ensures) .gaps-same))), omega (arith, (c .before .before .before .before .before .before .before .before .before .before .before .before .before .before .before .before .before .before .before .pre .0) .objectives, (c .before .before .before .before .before .before .before .before .before .before .before .before .before .before .before .before .before .before .before .pre .0) .is .few-objectives, (c .before .before .before .before .before .before .before .before .before .before .before .before .before .before .before .before .before .before .before .pre .0) .variables, variables-le ((c .before .before .before .before .before .before .before .before .before .before .before .before .before .before .before .before .before .before .before .pre .0) .is), (c .before .before .before .before .before .before .before .before .before .before .before .before .before .before .before .before .before .before .before .pre .0) .rows, (c .before .before .before .before .before .before .before .before .before .before .before .before .before .before .before .before .before .before .before .pre .0) .is .few-rows), taken-small (c .before .before .before .before .lay-objectives .ensures) (omega (arith, (c .before .before .before .before .before .before .before .before .before .before .before .before .before .before .before .before .before .before .before .pre .0) .objectives, (c .before .before .before .before .before .before .before .before .before .before .before .before .before .before .before .before .before .before .before .pre .0) .is .few-objectives, (c .before .before .before .before .before .before .before .before .before .before .before .before .before .before .before .before .before .before .before .pre .0) .variables, variables-le ((c .before .before .before .before .before .before .before .before .before .before .before .before .before .before .before .before .before .before .before .pre .0) .is), (c .before .before .before .before .before .before .before .before .before .before .before .before .before .before .before .before .before .before .before .pre .0) .rows, (c .before .before .before .before .before .before .before .before .before .before .before .before .before .before .before .before .before .before .before .pre .0) .is .few-rows, mul-le-mul-right {m = c .before .before .before .before .before .before .before .before .before .before .before .before .before .before .before .before .before .before .before .args .sizes .objectives} {n = 4} (c .before .before .before .before .before .before .before .before .before .before .before .before .before .before .before .before .before .before .before .args .sizes .variables) (omega (arith, (c .before .before .before .before .before .before .before .before .before .before .before .before .before .before .before .before .before .before .before .pre .0) .objectives, (c .before .before .before .before .before .before .before .before .before .before .before .before .before .before .before .before .before .before .before .pre .0) .is .few-objectives)), (c .before .before .before .before .lay-objectives .ensures) .gaps-same)) (omega (arith, (c .before .before .before .before .before .before .before .before .before .before .before .before .before .before .before .before .before .before .before .pre .0) .objectives, (c .before .before .before .before .before .before .before .before .before .before .before .before .before .before .before .before .before .before .before .pre .0) .is .few-objectives, (c .before .before .before .before .before .before .before .before .before .before .before .before .before .before .before .before .before .before .before .pre .0) .variables, variables-le ((c .before .before .before .before .before .before .before .before .before .before .before .before .before .before .before .before .before .before .before .pre .0) .is), (c .before .before .before .before .before .before .before .before .before .before .before .before .before .before .before .before .before .before .before .pre .0) .rows, (c .before .before .before .before .before .before .before .before .before .before .before .before .before .before .before .before .before .before .before .pre .0) .is .few-rows, mul-le-mul-right {m = c .before .before .before .before .before .before .before .before .before .before .before .before .before .before .before .before .before .before .before .args .sizes .objectives} {n = 4} (c .before .before .before .before .before .before .before .before .before .before .before .before .before .before .before .before .before .before .before .args .sizes .variables) (omega (arith, (c .before .before .before .before .before .before .before .before .before .before .before .before .before .before .before .before .before .before .before .pre .0) .objectives, (c .before .before .before .before .before .before .before .before .before .before .before .before .before .before .before .before .before .before .before .pre .0) .is .few-objectives)), (c .before .before .before .before .lay-objectives .ensures) .dear-same)))
+
+add-starts : tie.Need-add-starts
+add-starts c = omega (arith, few-halves ((c .before .before .before .before .before .before .before .before .before .before .before .before .before .before .before .before .before .before .before .before .before .pre .0) .is) ((c .before .before .before .before .before .before .before .before .before .before .before .before .before .before .before .before .before .before .before .before .before .pre .0) .objectives) ((c .before .before .before .before .before .before .before .before .before .before .before .before .before .before .before .before .before .before .before .before .before .pre .0) .rows) (c .before .before .before .before .before .before .before .before .before .before .before .before .before .before .lay-rows .ensures))
+
+array-share-prefix-starts : tie.Need-array-share-prefix-starts
+array-share-prefix-starts c = omega (arith, few-halves ((c .before .before .before .before .before .before .before .before .before .before .before .before .before .before .before .before .before .before .before .before .before .pre .0) .is) ((c .before .before .before .before .before .before .before .before .before .before .before .before .before .before .before .before .before .before .before .before .before .pre .0) .objectives) ((c .before .before .before .before .before .before .before .before .before .before .before .before .before .before .before .before .before .before .before .before .before .pre .0) .rows) (c .before .before .before .before .before .before .before .before .before .before .before .before .before .before .lay-rows .ensures), c .before .before .before .before .before .before .before .before .before .before .before .before .before .before .lay-rows .kept)
+
+slice-aggregate-list-points : tie.Need-slice-aggregate-list-points
+slice-aggregate-list-points c = sym (length-take-le _ _ (omega (arith, few-halves ((c .before .before .before .before .before .before .before .before .before .before .before .before .before .before .before .before .before .before .before .before .before .before .pre .0) .is) ((c .before .before .before .before .before .before .before .before .before .before .before .before .before .before .before .before .before .before .before .before .before .before .pre .0) .objectives) ((c .before .before .before .before .before .before .before .before .before .before .before .before .before .before .before .before .before .before .before .before .before .before .pre .0) .rows) (c .before .before .before .before .before .before .before .before .before .before .before .before .before .before .before .lay-rows .ensures), c .before .before .before .before .before .before .before .before .before .before .before .before .before .before .before .lay-rows .kept)))
+
+array-share-prefix-variables : tie.Need-array-share-prefix-variables
+array-share-prefix-variables c = omega (arith, few-terms ((c .before .before .before .before .before .before .before .before .before .before .before .before .before .before .before .before .before .before .before .before .before .before .pre .0) .is) ((c .before .before .before .before .before .before .before .before .before .before .before .before .before .before .before .before .before .before .before .before .before .before .pre .0) .objectives) ((c .before .before .before .before .before .before .before .before .before .before .before .before .before .before .before .before .before .before .before .before .before .before .pre .0) .rows) (c .before .before .before .before .before .before .before .before .before .before .before .before .before .before .before .lay-rows .ensures), c .before .before .before .before .before .before .before .before .before .before .before .before .before .before .before .lay-rows .kept)
+
+slice-aggregate-list-points-2 : tie.Need-slice-aggregate-list-points-2
+slice-aggregate-list-points-2 c = sym (length-take-le _ _ (omega (arith, few-terms ((c .before .before .before .before .before .before .before .before .before .before .before .before .before .before .before .before .before .before .before .before .before .before .before .pre .0) .is) ((c .before .before .before .before .before .before .before .before .before .before .before .before .before .before .before .before .before .before .before .before .before .before .before .pre .0) .objectives) ((c .before .before .before .before .before .before .before .before .before .before .before .before .before .before .before .before .before .before .before .before .before .before .before .pre .0) .rows) (c .before .before .before .before .before .before .before .before .before .before .before .before .before .before .before .before .lay-rows .ensures), c .before .before .before .before .before .before .before .before .before .before .before .before .before .before .before .before .lay-rows .kept)))
+
+array-share-prefix-offs : tie.Need-array-share-prefix-offs
+array-share-prefix-offs c = omega (arith, few-terms ((c .before .before .before .before .before .before .before .before .before .before .before .before .before .before .before .before .before .before .before .before .before .before .before .pre .0) .is) ((c .before .before .before .before .before .before .before .before .before .before .before .before .before .before .before .before .before .before .before .before .before .before .before .pre .0) .objectives) ((c .before .before .before .before .before .before .before .before .before .before .before .before .before .before .before .before .before .before .before .before .before .before .before .pre .0) .rows) (c .before .before .before .before .before .before .before .before .before .before .before .before .before .before .before .before .lay-rows .ensures), c .before .before .before .before .before .before .before .before .before .before .before .before .before .before .before .before .lay-rows .kept)
+
+slice-aggregate-list-points-3 : tie.Need-slice-aggregate-list-points-3
+slice-aggregate-list-points-3 c = sym (length-take-le _ _ (omega (arith, few-terms ((c .before .before .before .before .before .before .before .before .before .before .before .before .before .before .before .before .before .before .before .before .before .before .before .before .pre .0) .is) ((c .before .before .before .before .before .before .before .before .before .before .before .before .before .before .before .before .before .before .before .before .before .before .before .before .pre .0) .objectives) ((c .before .before .before .before .before .before .before .before .before .before .before .before .before .before .before .before .before .before .before .before .before .before .before .before .pre .0) .rows) (c .before .before .before .before .before .before .before .before .before .before .before .before .before .before .before .before .before .lay-rows .ensures), c .before .before .before .before .before .before .before .before .before .before .before .before .before .before .before .before .before .lay-rows .kept)))
+
+array-share-prefix-weights : tie.Need-array-share-prefix-weights
+array-share-prefix-weights c = omega (arith, few-terms ((c .before .before .before .before .before .before .before .before .before .before .before .before .before .before .before .before .before .before .before .before .before .before .before .before .pre .0) .is) ((c .before .before .before .before .before .before .before .before .before .before .before .before .before .before .before .before .before .before .before .before .before .before .before .before .pre .0) .objectives) ((c .before .before .before .before .before .before .before .before .before .before .before .before .before .before .before .before .before .before .before .before .before .before .before .before .pre .0) .rows) (c .before .before .before .before .before .before .before .before .before .before .before .before .before .before .before .before .before .lay-rows .ensures), c .before .before .before .before .before .before .before .before .before .before .before .before .before .before .before .before .before .lay-rows .kept)
+
+slice-aggregate-list-points-4 : tie.Need-slice-aggregate-list-points-4
+slice-aggregate-list-points-4 c = sym (length-take-le _ _ (omega (arith, few-terms ((c .before .before .before .before .before .before .before .before .before .before .before .before .before .before .before .before .before .before .before .before .before .before .before .before .before .pre .0) .is) ((c .before .before .before .before .before .before .before .before .before .before .before .before .before .before .before .before .before .before .before .before .before .before .before .before .before .pre .0) .objectives) ((c .before .before .before .before .before .before .before .before .before .before .before .before .before .before .before .before .before .before .before .before .before .before .before .before .before .pre .0) .rows) (c .before .before .before .before .before .before .before .before .before .before .before .before .before .before .before .before .before .before .lay-rows .ensures), c .before .before .before .before .before .before .before .before .before .before .before .before .before .before .before .before .before .before .lay-rows .kept)))
+
+array-share-prefix-needs : tie.Need-array-share-prefix-needs
+array-share-prefix-needs c = omega (arith, few-halves ((c .before .before .before .before .before .before .before .before .before .before .before .before .before .before .before .before .before .before .before .before .before .before .before .before .before .pre .0) .is) ((c .before .before .before .before .before .before .before .before .before .before .before .before .before .before .before .before .before .before .before .before .before .before .before .before .before .pre .0) .objectives) ((c .before .before .before .before .before .before .before .before .before .before .before .before .before .before .before .before .before .before .before .before .before .before .before .before .before .pre .0) .rows) (c .before .before .before .before .before .before .before .before .before .before .before .before .before .before .before .before .before .before .lay-rows .ensures), c .before .before .before .before .before .before .before .before .before .before .before .before .before .before .before .before .before .before .lay-rows .kept)
+
+slice-aggregate-list-points-5 : tie.Need-slice-aggregate-list-points-5
+slice-aggregate-list-points-5 c = sym (length-take-le _ _ (omega (arith, few-halves ((c .before .before .before .before .before .before .before .before .before .before .before .before .before .before .before .before .before .before .before .before .before .before .before .before .before .before .pre .0) .is) ((c .before .before .before .before .before .before .before .before .before .before .before .before .before .before .before .before .before .before .before .before .before .before .before .before .before .before .pre .0) .objectives) ((c .before .before .before .before .before .before .before .before .before .before .before .before .before .before .before .before .before .before .before .before .before .before .before .before .before .before .pre .0) .rows) (c .before .before .before .before .before .before .before .before .before .before .before .before .before .before .before .before .before .before .before .lay-rows .ensures), c .before .before .before .before .before .before .before .before .before .before .before .before .before .before .before .before .before .before .before .lay-rows .kept)))
+
+array-share-prefix-gaps-2 : tie.Need-array-share-prefix-gaps-2
+array-share-prefix-gaps-2 c = omega (arith, (c .before .before .before .before .before .before .before .before .before .before .before .before .before .before .before .before .before .before .before .before .before .before .before .before .before .before .pre .0) .objectives, (c .before .before .before .before .before .before .before .before .before .before .before .before .before .before .before .before .before .before .before .before .before .before .before .before .before .before .pre .0) .is .few-objectives, (c .before .before .before .before .before .before .before .before .before .before .before .before .before .before .before .before .before .before .before .before .before .before .before .before .before .before .pre .0) .variables, variables-le ((c .before .before .before .before .before .before .before .before .before .before .before .before .before .before .before .before .before .before .before .before .before .before .before .before .before .before .pre .0) .is), (c .before .before .before .before .before .before .before .before .before .before .before .before .before .before .before .before .before .before .before .before .before .before .before .before .before .before .pre .0) .rows, (c .before .before .before .before .before .before .before .before .before .before .before .before .before .before .before .before .before .before .before .before .before .before .before .before .before .before .pre .0) .is .few-rows, mul-le-mul-right {m = c .before .before .before .before .before .before .before .before .before .before .before .before .before .before .before .before .before .before .before .before .before .before .before .before .before .before .args .sizes .objectives} {n = 4} (c .before .before .before .before .before .before .before .before .before .before .before .before .before .before .before .before .before .before .before .before .before .before .before .before .before .before .args .sizes .variables) (omega (arith, (c .before .before .before .before .before .before .before .before .before .before .before .before .before .before .before .before .before .before .before .before .before .before .before .before .before .before .pre .0) .objectives, (c .before .before .before .before .before .before .before .before .before .before .before .before .before .before .before .before .before .before .before .before .before .before .before .before .before .before .pre .0) .is .few-objectives)), (c .before .before .before .before .before .before .before .before .before .before .before .lay-objectives .ensures) .gaps-same)
+
+slice-aggregate-list-points-6 : tie.Need-slice-aggregate-list-points-6
+slice-aggregate-list-points-6 c = sym (length-take-le _ _ (omega (arith, (c .before .before .before .before .before .before .before .before .before .before .before .before .before .before .before .before .before .before .before .before .before .before .before .before .before .before .before .pre .0) .objectives, (c .before .before .before .before .before .before .before .before .before .before .before .before .before .before .before .before .before .before .before .before .before .before .before .before .before .before .before .pre .0) .is .few-objectives, (c .before .before .before .before .before .before .before .before .before .before .before .before .before .before .before .before .before .before .before .before .before .before .before .before .before .before .before .pre .0) .variables, variables-le ((c .before .before .before .before .before .before .before .before .before .before .before .before .before .before .before .before .before .before .before .before .before .before .before .before .before .before .before .pre .0) .is), (c .before .before .before .before .before .before .before .before .before .before .before .before .before .before .before .before .before .before .before .before .before .before .before .before .before .before .before .pre .0) .rows, (c .before .before .before .before .before .before .before .before .before .before .before .before .before .before .before .before .before .before .before .before .before .before .before .before .before .before .before .pre .0) .is .few-rows, mul-le-mul-right {m = c .before .before .before .before .before .before .before .before .before .before .before .before .before .before .before .before .before .before .before .before .before .before .before .before .before .before .before .args .sizes .objectives} {n = 4} (c .before .before .before .before .before .before .before .before .before .before .before .before .before .before .before .before .before .before .before .before .before .before .before .before .before .before .before .args .sizes .variables) (omega (arith, (c .before .before .before .before .before .before .before .before .before .before .before .before .before .before .before .before .before .before .before .before .before .before .before .before .before .before .before .pre .0) .objectives, (c .before .before .before .before .before .before .before .before .before .before .before .before .before .before .before .before .before .before .before .before .before .before .before .before .before .before .before .pre .0) .is .few-objectives)), (c .before .before .before .before .before .before .before .before .before .before .before .before .lay-objectives .ensures) .gaps-same)))
+
+array-share-prefix-dears : tie.Need-array-share-prefix-dears
+array-share-prefix-dears c = omega (arith, (c .before .before .before .before .before .before .before .before .before .before .before .before .before .before .before .before .before .before .before .before .before .before .before .before .before .before .before .pre .0) .objectives, (c .before .before .before .before .before .before .before .before .before .before .before .before .before .before .before .before .before .before .before .before .before .before .before .before .before .before .before .pre .0) .is .few-objectives, (c .before .before .before .before .before .before .before .before .before .before .before .before .before .before .before .before .before .before .before .before .before .before .before .before .before .before .before .pre .0) .variables, variables-le ((c .before .before .before .before .before .before .before .before .before .before .before .before .before .before .before .before .before .before .before .before .before .before .before .before .before .before .before .pre .0) .is), (c .before .before .before .before .before .before .before .before .before .before .before .before .before .before .before .before .before .before .before .before .before .before .before .before .before .before .before .pre .0) .rows, (c .before .before .before .before .before .before .before .before .before .before .before .before .before .before .before .before .before .before .before .before .before .before .before .before .before .before .before .pre .0) .is .few-rows, mul-le-mul-right {m = c .before .before .before .before .before .before .before .before .before .before .before .before .before .before .before .before .before .before .before .before .before .before .before .before .before .before .before .args .sizes .objectives} {n = 4} (c .before .before .before .before .before .before .before .before .before .before .before .before .before .before .before .before .before .before .before .before .before .before .before .before .before .before .before .args .sizes .variables) (omega (arith, (c .before .before .before .before .before .before .before .before .before .before .before .before .before .before .before .before .before .before .before .before .before .before .before .before .before .before .before .pre .0) .objectives, (c .before .before .before .before .before .before .before .before .before .before .before .before .before .before .before .before .before .before .before .before .before .before .before .before .before .before .before .pre .0) .is .few-objectives)), (c .before .before .before .before .before .before .before .before .before .before .before .before .lay-objectives .ensures) .dear-same)
+
+slice-aggregate-list-points-7 : tie.Need-slice-aggregate-list-points-7
+slice-aggregate-list-points-7 c = sym (length-take-le _ _ (omega (arith, (c .before .before .before .before .before .before .before .before .before .before .before .before .before .before .before .before .before .before .before .before .before .before .before .before .before .before .before .before .pre .0) .objectives, (c .before .before .before .before .before .before .before .before .before .before .before .before .before .before .before .before .before .before .before .before .before .before .before .before .before .before .before .before .pre .0) .is .few-objectives, (c .before .before .before .before .before .before .before .before .before .before .before .before .before .before .before .before .before .before .before .before .before .before .before .before .before .before .before .before .pre .0) .variables, variables-le ((c .before .before .before .before .before .before .before .before .before .before .before .before .before .before .before .before .before .before .before .before .before .before .before .before .before .before .before .before .pre .0) .is), (c .before .before .before .before .before .before .before .before .before .before .before .before .before .before .before .before .before .before .before .before .before .before .before .before .before .before .before .before .pre .0) .rows, (c .before .before .before .before .before .before .before .before .before .before .before .before .before .before .before .before .before .before .before .before .before .before .before .before .before .before .before .before .pre .0) .is .few-rows, mul-le-mul-right {m = c .before .before .before .before .before .before .before .before .before .before .before .before .before .before .before .before .before .before .before .before .before .before .before .before .before .before .before .before .args .sizes .objectives} {n = 4} (c .before .before .before .before .before .before .before .before .before .before .before .before .before .before .before .before .before .before .before .before .before .before .before .before .before .before .before .before .args .sizes .variables) (omega (arith, (c .before .before .before .before .before .before .before .before .before .before .before .before .before .before .before .before .before .before .before .before .before .before .before .before .before .before .before .before .pre .0) .objectives, (c .before .before .before .before .before .before .before .before .before .before .before .before .before .before .before .before .before .before .before .before .before .before .before .before .before .before .before .before .pre .0) .is .few-objectives)), (c .before .before .before .before .before .before .before .before .before .before .before .before .before .lay-objectives .ensures) .dear-same)))
+
+slice-aggregate-list-points-8 : tie.Need-slice-aggregate-list-points-8
+slice-aggregate-list-points-8 c = search needs
+
+list-points-requires : tie.Need-list-points-requires
+list-points-requires c κs = (normal-is ((c .before .before .before .before .before .before .before .before .before .before .before .before .before .before .before .before .before .before .before .before .before .before .before .before .before .before .before .before .before .before .before .pre .0) .is) ((c .before .before .before .before .before .before .before .before .before .before .before .before .before .before .before .before .before .before .before .before .before .before .before .before .before .before .before .before .before .before .before .pre .0) .objectives) ((c .before .before .before .before .before .before .before .before .before .before .before .before .before .before .before .before .before .before .before .before .before .before .before .before .before .before .before .before .before .before .before .pre .0) .rows) (c .before .before .before .before .before .before .before .before .before .before .before .before .before .before .before .before .before .before .before .before .before .before .before .before .lay-rows .ensures) ((c .before .before .before .before .before .before .before .before .before .before .before .before .before .before .before .before .before .before .before .before .before .before .before .before .before .before .before .before .before .before .before .pre .0) .variables) (c .before .before .before .before .before .before .before .before .before .before .before .before .before .before .before .before .lay-objectives .ensures) (omega (arith, (c .before .before .before .before .before .before .before .before .before .before .before .before .before .before .before .before .before .before .before .before .before .before .before .before .before .before .before .before .before .before .before .pre .0) .objectives, (c .before .before .before .before .before .before .before .before .before .before .before .before .before .before .before .before .before .before .before .before .before .before .before .before .before .before .before .before .before .before .before .pre .0) .is .few-objectives, (c .before .before .before .before .before .before .before .before .before .before .before .before .before .before .before .before .before .before .before .before .before .before .before .before .before .before .before .before .before .before .before .pre .0) .variables, variables-le ((c .before .before .before .before .before .before .before .before .before .before .before .before .before .before .before .before .before .before .before .before .before .before .before .before .before .before .before .before .before .before .before .pre .0) .is), (c .before .before .before .before .before .before .before .before .before .before .before .before .before .before .before .before .before .before .before .before .before .before .before .before .before .before .before .before .before .before .before .pre .0) .rows, (c .before .before .before .before .before .before .before .before .before .before .before .before .before .before .before .before .before .before .before .before .before .before .before .before .before .before .before .before .before .before .before .pre .0) .is .few-rows, mul-le-mul-right {m = c .before .before .before .before .before .before .before .before .before .before .before .before .before .before .before .before .before .before .before .before .before .before .before .before .before .before .before .before .before .before .before .args .sizes .objectives} {n = 4} (c .before .before .before .before .before .before .before .before .before .before .before .before .before .before .before .before .before .before .before .before .before .before .before .before .before .before .before .before .before .before .before .args .sizes .variables) (omega (arith, (c .before .before .before .before .before .before .before .before .before .before .before .before .before .before .before .before .before .before .before .before .before .before .before .before .before .before .before .before .before .before .before .pre .0) .objectives, (c .before .before .before .before .before .before .before .before .before .before .before .before .before .before .before .before .before .before .before .before .before .before .before .before .before .before .before .before .before .before .before .pre .0) .is .few-objectives)), (c .before .before .before .before .before .before .before .before .before .before .before .before .before .before .before .before .lay-objectives .ensures) .gaps-same)) (omega (arith, (c .before .before .before .before .before .before .before .before .before .before .before .before .before .before .before .before .before .before .before .before .before .before .before .before .before .before .before .before .before .before .before .pre .0) .objectives, (c .before .before .before .before .before .before .before .before .before .before .before .before .before .before .before .before .before .before .before .before .before .before .before .before .before .before .before .before .before .before .before .pre .0) .is .few-objectives, (c .before .before .before .before .before .before .before .before .before .before .before .before .before .before .before .before .before .before .before .before .before .before .before .before .before .before .before .before .before .before .before .pre .0) .variables, variables-le ((c .before .before .before .before .before .before .before .before .before .before .before .before .before .before .before .before .before .before .before .before .before .before .before .before .before .before .before .before .before .before .before .pre .0) .is), (c .before .before .before .before .before .before .before .before .before .before .before .before .before .before .before .before .before .before .before .before .before .before .before .before .before .before .before .before .before .before .before .pre .0) .rows, (c .before .before .before .before .before .before .before .before .before .before .before .before .before .before .before .before .before .before .before .before .before .before .before .before .before .before .before .before .before .before .before .pre .0) .is .few-rows, mul-le-mul-right {m = c .before .before .before .before .before .before .before .before .before .before .before .before .before .before .before .before .before .before .before .before .before .before .before .before .before .before .before .before .before .before .before .args .sizes .objectives} {n = 4} (c .before .before .before .before .before .before .before .before .before .before .before .before .before .before .before .before .before .before .before .before .before .before .before .before .before .before .before .before .before .before .before .args .sizes .variables) (omega (arith, (c .before .before .before .before .before .before .before .before .before .before .before .before .before .before .before .before .before .before .before .before .before .before .before .before .before .before .before .before .before .before .before .pre .0) .objectives, (c .before .before .before .before .before .before .before .before .before .before .before .before .before .before .before .before .before .before .before .before .before .before .before .before .before .before .before .before .before .before .before .pre .0) .is .few-objectives)), (c .before .before .before .before .before .before .before .before .before .before .before .before .before .before .before .before .lay-objectives .ensures) .dear-same)), c .before .before .before .before .before .before .before .before .before .before .before .before .before .before .before .before .before .before .before .before .before .before .before .before .before .before .before .before .before .before .before .pre .1)
+
+same-length : tie.Need-same-length
+same-length c = search needs
+
+same-length-2 : tie.Need-same-length-2
+same-length-2 c = search needs
+
+returns : tie.Need-returns
+returns c = search needs
+
+pub list-instance-spec : {M : Type 1} → statement M
+list-instance-spec =
+    tie.close
+    (tie.spec
+    slice-aggregate-lay-rows
+    slice-aggregate-lay-rows-2
+    slice-aggregate-lay-rows-3
+    slice-aggregate-lay-rows-4
+    slice-aggregate-lay-rows-5
+    lay-rows-requires
+    slice-aggregate-lay-objectives
+    slice-aggregate-lay-objectives-2
+    lay-objectives-requires
+    mul-numbers
+    array-share-prefix-gaps
+    slice-aggregate-by-share
+    slice-aggregate-by-share-2
+    by-share-requires
+    add-starts
+    array-share-prefix-starts
+    slice-aggregate-list-points
+    array-share-prefix-variables
+    slice-aggregate-list-points-2
+    array-share-prefix-offs
+    slice-aggregate-list-points-3
+    array-share-prefix-weights
+    slice-aggregate-list-points-4
+    array-share-prefix-needs
+    slice-aggregate-list-points-5
+    array-share-prefix-gaps-2
+    slice-aggregate-list-points-6
+    array-share-prefix-dears
+    slice-aggregate-list-points-7
+    slice-aggregate-list-points-8
+    list-points-requires
+    same-length
+    same-length-2
+    returns)
