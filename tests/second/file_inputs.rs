@@ -1,0 +1,284 @@
+//! Lists and front files with fixed seeds: proper ones of every size, and ones with one or two things wrong.
+
+use crate::files::{check, layout, seal, List, Point, BLOCK};
+use crate::inputs::Rng;
+
+/// A list as it is lent: the three numbers and both runs.
+#[derive(Clone, Debug)]
+pub struct Lent {
+    pub objectives: u64,
+    pub n: u64,
+    pub points: u64,
+    pub values: Vec<i64>,
+    pub models: Vec<u64>,
+}
+
+/// The instance T's list and what document 01 says of its file: 1,024 bytes, these checks.
+pub fn worked() -> (List, [u16; 2]) {
+    let points = vec![Point { vector: [1, 4, 0, 0], model: 2 }, Point { vector: [5, 3, 0, 0], model: 5 }];
+    (List { objectives: 2, n: 3, points }, [0xFFF6, 0xFFE8])
+}
+
+const FAR: i64 = 4_096_000_000;
+
+/// So many points: few as a rule, whole blocks and the limit at times.
+fn size(r: &mut Rng) -> usize {
+    match r.below(1000) {
+        0 => r.pick(&[1023, 1024, 1020, 1021]),
+        1 | 2 => r.below(1025) as usize,
+        3..=40 => r.below(200) as usize,
+        41..=200 => r.pick(&[0, 1, 11, 12, 13, 24, 25, 36]),
+        _ => r.below(9) as usize,
+    }
+}
+
+/// Distinct vectors none of which dominates another, rising. All lie on one plane; or they are what is left of a random set.
+fn vectors(r: &mut Rng, objectives: u64, size: usize) -> Vec<[i64; 4]> {
+    let wide = r.chance(3);
+    let any = |r: &mut Rng| if wide { r.below(2 * FAR as u64 + 1) as i64 - FAR } else { r.below(12 + 3 * size as u64) as i64 - 6 };
+    let used = objectives as usize;
+    let mut vs: Vec<[i64; 4]> = Vec::new();
+    if r.chance(2) && size <= 24 {
+        for _ in 0..size * 4 {
+            let mut v = [0; 4];
+            v[..used].iter_mut().for_each(|x| *x = any(r));
+            if !vs.iter().any(|w| (0..4).all(|i| w[i] <= v[i])) {
+                vs.retain(|w| !(0..4).all(|i| v[i] <= w[i]));
+                vs.push(v);
+            }
+        }
+    } else {
+        let level = r.below(9) as i64 - 4;
+        for _ in 0..size * 2 {
+            let mut v = [0; 4];
+            v[..used - 1].iter_mut().for_each(|x| *x = any(r) / (used as i64 - 1).max(1));
+            v[used - 1] = (level - v[..used - 1].iter().sum::<i64>()).clamp(-FAR, FAR);
+            vs.push(v);
+        }
+        if objectives == 1 {
+            vs.truncate(1);
+        }
+    }
+    vs.sort();
+    vs.dedup();
+    if wide && vs.len() > 1 && r.chance(2) {
+        let last = vs.len() - 1;
+        vs[0][0] = -FAR;
+        vs[last][0] = FAR;
+    }
+    while vs.len() > size {
+        vs.swap_remove(r.below(vs.len() as u64) as usize);
+    }
+    vs.sort();
+    vs
+}
+
+/// Adds `by` to a word of a point block such that its check becomes 0000: the low word of its first assignment, which n must leave free.
+fn to_zero_check(list: &mut List) {
+    if list.n < 16 || list.points.is_empty() {
+        return;
+    }
+    let first = (list.points.len() - 1) / 12 * 12;
+    list.points[first].model &= !0xFFFF;
+    let bytes = layout(list);
+    list.points[first].model |= check(&bytes[bytes.len() - BLOCK..]) as u64;
+}
+
+/// A proper list.
+pub fn list(r: &mut Rng) -> List {
+    let size = size(r);
+    let objectives = if size > 1 { 2 + r.below(3) } else { 1 + r.below(4) };
+    let n = match r.below(6) {
+        0 => r.pick(&[0, 1, 63, 64]),
+        1 => 64,
+        _ => r.below(65),
+    };
+    let mask = if n == 64 { u64::MAX } else { (1 << n) - 1 };
+    let points = vectors(r, objectives, size).into_iter().map(|vector| Point { vector, model: (r.next() ^ r.next() << 1) & mask }).collect();
+    let mut list = List { objectives, n, points };
+    if r.chance(8) {
+        to_zero_check(&mut list);
+    }
+    list
+}
+
+pub const LIST_FAULTS: u64 = 14;
+
+/// Breaks one clause of 'proper' in the points, the others left as they are where that can be. Answers whether the list had what it takes.
+pub fn break_points(r: &mut Rng, list: &mut List, fault: u64) -> bool {
+    let (size, used) = (list.points.len(), list.objectives as usize);
+    let at = r.below(size.max(1) as u64) as usize;
+    match fault {
+        0 if size > 0 => list.points[0].vector[0] = r.pick(&[-FAR - 1, i64::MIN, -FAR - 512]),
+        1 if size > 0 => list.points[size - 1].vector[0] = r.pick(&[FAR + 1, i64::MAX, 1 << 40]),
+        2 if size > 0 && used < 4 => list.points[at].vector[used + r.below(4 - used as u64) as usize] = r.pick(&[1, -1, FAR, i64::MIN]),
+        3 if size > 0 && list.n < 64 => list.points[at].model |= 1 << (list.n + r.below(64 - list.n)),
+        4 if size > 1 => {
+            let (a, b) = (list.points[at.max(1)].vector, list.points[at.max(1) - 1].vector);
+            list.points[at.max(1)].vector = b;
+            list.points[at.max(1) - 1].vector = a;
+        }
+        5 if size > 0 => {
+            let twin = list.points[at];
+            list.points.insert(at, twin);
+        }
+        6 if size > 0 => {
+            let mut worse = list.points[at];
+            worse.vector[used - 1] += 1;
+            list.points.insert(at + 1, worse);
+        }
+        7 if size > 0 => {
+            let mut worse = list.points[at];
+            worse.vector[0] = list.points[size - 1].vector[0] + 1;
+            list.points.push(worse);
+        }
+        8 if size > 0 => {
+            let mut worse = list.points[at];
+            worse.vector[..used].iter_mut().for_each(|v| *v += 1);
+            list.points.insert(at + 1, worse);
+        }
+        9 => {
+            let more = 1025 + r.below(8) as i64;
+            list.objectives = list.objectives.max(2);
+            list.points = (0..more).map(|i| Point { vector: [i, -i, 0, 0], model: 0 }).collect();
+        }
+        10 => list.objectives = r.pick(&[0, 5, 255, 256, 65535]),
+        11 => list.n = r.pick(&[65, 66, 128, 256, 65535]),
+        12 if used < 4 && size > 0 => list.objectives -= 1,
+        13 if size > 2 => list.points.rotate_left(1),
+        _ => return false,
+    }
+    true
+}
+
+/// A list in lent runs: proper, or with one clause broken, in runs of exact length or longer.
+pub fn lent(r: &mut Rng, round: u64) -> Lent {
+    let mut list = list(r);
+    if round % 3 == 0 {
+        break_points(r, &mut list, round / 3 % LIST_FAULTS);
+    }
+    let mut lent = Lent {
+        objectives: list.objectives,
+        n: list.n,
+        points: list.points.len() as u64,
+        values: list.points.iter().flat_map(|p| p.vector).collect(),
+        models: list.points.iter().map(|p| p.model).collect(),
+    };
+    for _ in 0..r.below(3) * r.below(6) {
+        lent.values.push(r.next() as i64);
+    }
+    for _ in 0..r.below(3) {
+        lent.models.push(r.next());
+    }
+    if round % 24 == 1 {
+        match r.below(8) {
+            0 => lent.points += 1 + r.below(3),
+            1 => lent.points = r.pick(&[1 << 32, 1 << 62, u64::MAX, 1 << 63, 1025]),
+            2 => lent.points += r.pick(&[1 << 32, 1 << 62]),
+            3 => drop(lent.models.pop()),
+            4 => drop(lent.values.pop()),
+            5 => lent.objectives = r.pick(&[0, 5, u64::MAX, 1 << 32, lent.objectives + (1 << 32)]),
+            6 => lent.n = r.pick(&[65, u64::MAX, 1 << 32, lent.n + (1 << 32)]),
+            _ => lent.points = r.below(lent.points + 1),
+        }
+    }
+    lent
+}
+
+pub const FILE_FAULTS: u64 = 20;
+
+/// Damages a file; the checks are not touched. Answers false where the file has not what it takes.
+fn damage(r: &mut Rng, file: &mut Vec<u8>, fault: u64) -> bool {
+    let blocks = file.len() / BLOCK;
+    let block = r.below(blocks as u64) as usize;
+    let last = (blocks - 1) * BLOCK;
+    let points = u32::from_be_bytes(file[16..20].try_into().unwrap());
+    let other = |r: &mut Rng, b: u8| b ^ (1 << r.below(8));
+    let mut flip = |r: &mut Rng, at: usize| file[at] = other(r, file[at]);
+    match fault {
+        0 => flip(r, block * BLOCK + 2 + r.below(2) as usize),
+        1 => flip(r, block * BLOCK + 4 + r.below(4) as usize),
+        2 => flip(r, 8 + r.below(2) as usize),
+        3 => flip(r, 14 + r.below(2) as usize),
+        4 => flip(r, 20 + r.below(492) as usize),
+        5 => flip(r, 16 + r.below(4) as usize),
+        6 => file[16..20].copy_from_slice(&r.pick(&[points + 1, points.wrapping_sub(1), points + 12, points.wrapping_sub(12), u32::MAX, 1 << 31, 0]).to_be_bytes()),
+        7 if block > 0 => flip(r, block * BLOCK + 488 + r.below(24) as usize),
+        8 if points % 12 > 0 => flip(r, last + 8 + points as usize % 12 * 40 + r.below(40) as usize),
+        9 => flip(r, 10 + r.below(2) as usize),
+        10 => flip(r, 12 + r.below(2) as usize),
+        11 if block > 0 => flip(r, block * BLOCK + 8 + r.below(504) as usize),
+        12 => file.extend_from_within(last..),
+        13 => file.truncate(last.max(BLOCK)),
+        14 => file.extend([0; BLOCK]),
+        15 => drop(file.drain(block * BLOCK..(block + 1) * BLOCK)),
+        16 if blocks > 2 => {
+            let (a, b) = (last - BLOCK, last);
+            (0..BLOCK).for_each(|i| file.swap(a + i, b + i));
+        }
+        17 => file[block * BLOCK..][..BLOCK].iter_mut().for_each(|b| *b = r.next() as u8),
+        18 => file[block * BLOCK..][..BLOCK].fill(0),
+        19 => file[block * BLOCK + 2..][..2].copy_from_slice(&(if block == 0 { [0, 2] } else { [0, 1] })),
+        _ => return false,
+    }
+    true
+}
+
+/// Changes stored checks: a bit, another order of bytes, a check counted as it stands, FFFF for 0000.
+fn damage_check(r: &mut Rng, file: &mut [u8]) {
+    let block = r.below((file.len() / BLOCK) as u64) as usize;
+    let part = &mut file[block * BLOCK..][..BLOCK];
+    match r.below(4) {
+        0 => part[r.below(2) as usize] ^= 1 << r.below(8),
+        1 => part.swap(0, 1),
+        2 => part[..2].copy_from_slice(&r.pick(&[[0, 0], [255, 255]])),
+        _ => part[r.below(BLOCK as u64) as usize] ^= 1 << r.below(8),
+    }
+}
+
+/// Stores FFFF where a block's check is 0000; answers whether there was one.
+fn ffff_for_0000(file: &mut [u8]) -> bool {
+    let Some(block) = file.chunks_mut(BLOCK).rev().find(|b| check(b) == 0) else { return false };
+    block[..2].fill(0xFF);
+    true
+}
+
+/// A file: that of a proper list, or damaged with its checks made to fit, or damaged without, or of another length.
+pub fn file(r: &mut Rng, round: u64) -> Vec<u8> {
+    let mut list = list(r);
+    match round % 8 {
+        0 | 1 => {
+            break_points(r, &mut list, round / 8 % LIST_FAULTS);
+        }
+        2 => to_zero_check(&mut list),
+        _ => {}
+    }
+    let mut file = layout(&list);
+    match round % 8 {
+        1 if r.chance(4) => {
+            damage(r, &mut file, round / 8 % FILE_FAULTS);
+            file.chunks_exact_mut(BLOCK).for_each(seal);
+        }
+        2 => {
+            ffff_for_0000(&mut file);
+        }
+        3 | 4 => {
+            for k in 0..1 + r.below(2) * r.below(2) {
+                damage(r, &mut file, (round / 8 + k * 7) % FILE_FAULTS);
+            }
+            file.chunks_exact_mut(BLOCK).for_each(seal);
+        }
+        5 if !r.chance(3) => {
+            for _ in 0..1 + r.below(3) {
+                damage_check(r, &mut file);
+            }
+        }
+        6 if r.chance(2) => {
+            let len = r.pick(&[0, 1, 2, 511, 513, file.len() - 1, file.len() + 1, file.len() + 511, 44_543, 44_544, 44_545, 45_056, 45_057, 87 * 512, 88 * 512]);
+            file.resize(len, 0);
+            file.chunks_exact_mut(BLOCK).for_each(seal);
+        }
+        _ => {}
+    }
+    file
+}
