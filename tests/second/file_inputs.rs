@@ -4,7 +4,7 @@ use crate::files::{check, layout, seal, List, Point, BLOCK};
 use crate::inputs::Rng;
 
 /// A list as it is lent: the three numbers and both runs.
-#[derive(Clone, Debug)]
+#[derive(Clone, PartialEq, Debug)]
 pub struct Lent {
     pub objectives: u64,
     pub n: u64,
@@ -17,6 +17,13 @@ pub struct Lent {
 pub fn worked() -> (List, [u16; 2]) {
     let points = vec![Point { vector: [1, 4, 0, 0], model: 2 }, Point { vector: [5, 3, 0, 0], model: 5 }];
     (List { objectives: 2, n: 3, points }, [0xFFF6, 0xFFE8])
+}
+
+/// The file of one point, its block's check 0000.
+pub fn zero_check() -> Vec<u8> {
+    let mut list = List { objectives: 1, n: 16, points: vec![Point { vector: [7, 0, 0, 0], model: 0 }] };
+    to_zero_check(&mut list);
+    layout(&list)
 }
 
 const FAR: i64 = 4_096_000_000;
@@ -32,48 +39,47 @@ fn size(r: &mut Rng) -> usize {
     }
 }
 
-/// Distinct vectors none of which dominates another, rising. All lie on one plane; or they are what is left of a random set.
-fn vectors(r: &mut Rng, objectives: u64, size: usize) -> Vec<[i64; 4]> {
-    let wide = r.chance(3);
-    let any = |r: &mut Rng| if wide { r.below(2 * FAR as u64 + 1) as i64 - FAR } else { r.below(12 + 3 * size as u64) as i64 - 6 };
-    let used = objectives as usize;
-    let mut vs: Vec<[i64; 4]> = Vec::new();
-    if r.chance(2) && size <= 24 {
-        for _ in 0..size * 4 {
-            let mut v = [0; 4];
-            v[..used].iter_mut().for_each(|x| *x = any(r));
-            if !vs.iter().any(|w| (0..4).all(|i| w[i] <= v[i])) {
-                vs.retain(|w| !(0..4).all(|i| v[i] <= w[i]));
-                vs.push(v);
-            }
-        }
+/// A number within `most` of 0, small or anywhere.
+fn any(r: &mut Rng, most: i64) -> i64 {
+    if r.chance(3) {
+        r.next() as i64 % (most + 1)
     } else {
-        let level = r.below(9) as i64 - 4;
-        for _ in 0..size * 2 {
-            let mut v = [0; 4];
-            v[..used - 1].iter_mut().for_each(|x| *x = any(r) / (used as i64 - 1).max(1));
-            v[used - 1] = (level - v[..used - 1].iter().sum::<i64>()).clamp(-FAR, FAR);
-            vs.push(v);
-        }
-        if objectives == 1 {
-            vs.truncate(1);
-        }
+        r.below(40) as i64 - 20
     }
-    vs.sort();
-    vs.dedup();
-    if wide && vs.len() > 1 && r.chance(2) {
-        let last = vs.len() - 1;
-        vs[0][0] = -FAR;
-        vs[last][0] = FAR;
+}
+
+/// So many vectors whose first value rises and whose second falls.
+fn opposed(r: &mut Rng, objectives: u64, size: usize) -> Vec<[i64; 4]> {
+    let step = if r.chance(3) { 2 * FAR as u64 / (size as u64 + 1) } else { 3 };
+    let (mut a, mut b) = (-FAR, FAR);
+    let mut vs = Vec::new();
+    for _ in 0..size {
+        let mut v = [a, b, any(r, FAR), any(r, FAR)];
+        v[objectives as usize..].fill(0);
+        vs.push(v);
+        a += 1 + r.below(step) as i64;
+        b -= 1 + r.below(step) as i64;
     }
-    while vs.len() > size {
-        vs.swap_remove(r.below(vs.len() as u64) as usize);
-    }
-    vs.sort();
     vs
 }
 
-/// Adds `by` to a word of a point block such that its check becomes 0000: the low word of its first assignment, which n must leave free.
+/// What no other dominates of a few random vectors.
+fn undominated(r: &mut Rng, objectives: u64, size: usize) -> Vec<[i64; 4]> {
+    let mut vs: Vec<[i64; 4]> = Vec::new();
+    for _ in 0..size * 4 {
+        let mut v = [0; 4].map(|_: i64| any(r, FAR));
+        v[objectives as usize..].fill(0);
+        if !vs.iter().any(|w| (0..4).all(|i| w[i] <= v[i])) {
+            vs.retain(|w| !(0..4).all(|i| v[i] <= w[i]));
+            vs.push(v);
+        }
+    }
+    vs.sort();
+    vs.truncate(size);
+    vs
+}
+
+/// Makes the check of the last block 0000, by the low word of an assignment in it, where n leaves that word free.
 fn to_zero_check(list: &mut List) {
     if list.n < 16 || list.points.is_empty() {
         return;
@@ -84,9 +90,8 @@ fn to_zero_check(list: &mut List) {
     list.points[first].model |= check(&bytes[bytes.len() - BLOCK..]) as u64;
 }
 
-/// A proper list.
-pub fn list(r: &mut Rng) -> List {
-    let size = size(r);
+/// A proper list of so many points, where one objective allows them.
+pub fn list_of(r: &mut Rng, size: usize) -> List {
     let objectives = if size > 1 { 2 + r.below(3) } else { 1 + r.below(4) };
     let n = match r.below(6) {
         0 => r.pick(&[0, 1, 63, 64]),
@@ -94,8 +99,15 @@ pub fn list(r: &mut Rng) -> List {
         _ => r.below(65),
     };
     let mask = if n == 64 { u64::MAX } else { (1 << n) - 1 };
-    let points = vectors(r, objectives, size).into_iter().map(|vector| Point { vector, model: (r.next() ^ r.next() << 1) & mask }).collect();
-    let mut list = List { objectives, n, points };
+    let vectors = if size <= 24 && r.chance(2) { undominated(r, objectives, size) } else { opposed(r, objectives, size) };
+    let points = vectors.into_iter().map(|vector| Point { vector, model: (r.next() ^ r.next() << 1) & mask }).collect();
+    List { objectives, n, points }
+}
+
+/// A proper list of any size.
+fn list(r: &mut Rng) -> List {
+    let size = size(r);
+    let mut list = list_of(r, size);
     if r.chance(8) {
         to_zero_check(&mut list);
     }
@@ -189,25 +201,27 @@ pub const FILE_FAULTS: u64 = 20;
 
 /// Damages a file; the checks are not touched. Answers false where the file has not what it takes.
 fn damage(r: &mut Rng, file: &mut Vec<u8>, fault: u64) -> bool {
+    if file.is_empty() {
+        return false;
+    }
     let blocks = file.len() / BLOCK;
     let block = r.below(blocks as u64) as usize;
     let last = (blocks - 1) * BLOCK;
     let points = u32::from_be_bytes(file[16..20].try_into().unwrap());
-    let other = |r: &mut Rng, b: u8| b ^ (1 << r.below(8));
-    let mut flip = |r: &mut Rng, at: usize| file[at] = other(r, file[at]);
+    let mut flip = |r: &mut Rng, at: usize, among: u64| file[at + r.below(among) as usize] ^= 1 << r.below(8);
     match fault {
-        0 => flip(r, block * BLOCK + 2 + r.below(2) as usize),
-        1 => flip(r, block * BLOCK + 4 + r.below(4) as usize),
-        2 => flip(r, 8 + r.below(2) as usize),
-        3 => flip(r, 14 + r.below(2) as usize),
-        4 => flip(r, 20 + r.below(492) as usize),
-        5 => flip(r, 16 + r.below(4) as usize),
-        6 => file[16..20].copy_from_slice(&r.pick(&[points + 1, points.wrapping_sub(1), points + 12, points.wrapping_sub(12), u32::MAX, 1 << 31, 0]).to_be_bytes()),
-        7 if block > 0 => flip(r, block * BLOCK + 488 + r.below(24) as usize),
-        8 if points % 12 > 0 => flip(r, last + 8 + points as usize % 12 * 40 + r.below(40) as usize),
-        9 => flip(r, 10 + r.below(2) as usize),
-        10 => flip(r, 12 + r.below(2) as usize),
-        11 if block > 0 => flip(r, block * BLOCK + 8 + r.below(504) as usize),
+        0 => flip(r, block * BLOCK + 2, 2),
+        1 => flip(r, block * BLOCK + 4, 4),
+        2 => flip(r, 8, 2),
+        3 => flip(r, 14, 2),
+        4 => flip(r, 20, 492),
+        5 => flip(r, 16, 4),
+        6 => file[16..20].copy_from_slice(&r.pick(&[points.wrapping_add(1), points.wrapping_sub(1), points.wrapping_add(12), points.wrapping_sub(12), u32::MAX, 1 << 31, 0]).to_be_bytes()),
+        7 if block > 0 => flip(r, block * BLOCK + 488, 24),
+        8 if points % 12 > 0 => flip(r, last + 8 + points as usize % 12 * 40, 40),
+        9 => flip(r, 10, 2),
+        10 => flip(r, 12, 2),
+        11 if block > 0 => flip(r, block * BLOCK + 8, 504),
         12 => file.extend_from_within(last..),
         13 => file.truncate(last.max(BLOCK)),
         14 => file.extend([0; BLOCK]),
@@ -224,13 +238,14 @@ fn damage(r: &mut Rng, file: &mut Vec<u8>, fault: u64) -> bool {
     true
 }
 
-/// Changes stored checks: a bit, another order of bytes, a check counted as it stands, FFFF for 0000.
+/// Damages a block so that its check no longer fits, as a rule: a bit, another order of bytes, another check, all zeros.
 fn damage_check(r: &mut Rng, file: &mut [u8]) {
     let block = r.below((file.len() / BLOCK) as u64) as usize;
     let part = &mut file[block * BLOCK..][..BLOCK];
-    match r.below(4) {
+    match r.below(5) {
         0 => part[r.below(2) as usize] ^= 1 << r.below(8),
         1 => part.swap(0, 1),
+        3 => part.fill(0),
         2 => part[..2].copy_from_slice(&r.pick(&[[0, 0], [255, 255]])),
         _ => part[r.below(BLOCK as u64) as usize] ^= 1 << r.below(8),
     }
