@@ -90,84 +90,117 @@ fn to_zero_check(list: &mut List) {
     list.points[first].model |= check(&bytes[bytes.len() - BLOCK..]) as u64;
 }
 
-/// A proper list of so many points, where one objective allows them.
-pub fn list_of(r: &mut Rng, size: usize) -> List {
-    let objectives = if size > 1 { 2 + r.below(3) } else { 1 + r.below(4) };
+/// Objectives for so many points: one objective allows one point at most.
+fn objectives_for(r: &mut Rng, size: usize) -> u64 {
+    if size > 1 {
+        2 + r.below(3)
+    } else {
+        1 + r.below(4)
+    }
+}
+
+/// These vectors with n and assignments.
+fn with_models(r: &mut Rng, objectives: u64, vectors: Vec<[i64; 4]>) -> List {
     let n = match r.below(6) {
         0 => r.pick(&[0, 1, 63, 64]),
         1 => 64,
         _ => r.below(65),
     };
     let mask = if n == 64 { u64::MAX } else { (1 << n) - 1 };
-    let vectors = if size <= 24 && r.chance(2) { undominated(r, objectives, size) } else { opposed(r, objectives, size) };
     let points = vectors.into_iter().map(|vector| Point { vector, model: (r.next() ^ r.next() << 1) & mask }).collect();
     List { objectives, n, points }
+}
+
+/// A proper list of so many points.
+pub fn list_of(r: &mut Rng, size: usize) -> List {
+    let objectives = objectives_for(r, size);
+    let vectors = opposed(r, objectives, size);
+    with_models(r, objectives, vectors)
 }
 
 /// A proper list of any size.
 fn list(r: &mut Rng) -> List {
     let size = size(r);
-    let mut list = list_of(r, size);
+    let mut list = if size <= 24 && r.chance(2) {
+        let objectives = objectives_for(r, size);
+        let vectors = undominated(r, objectives, size);
+        with_models(r, objectives, vectors)
+    } else {
+        list_of(r, size)
+    };
     if r.chance(8) {
         to_zero_check(&mut list);
     }
     list
 }
 
-pub const LIST_FAULTS: u64 = 14;
+const LIST_FAULTS: u64 = 14;
 
-/// Breaks one clause of 'proper' in the points, the others left as they are where that can be. Answers whether the list had what it takes.
-pub fn break_points(r: &mut Rng, list: &mut List, fault: u64) -> bool {
+/// Breaks one clause of 'proper', the others left as they are where that can be; a list that has not what it takes stays as it is.
+fn break_list(r: &mut Rng, list: &mut List, fault: u64) {
     let (size, used) = (list.points.len(), list.objectives as usize);
     let at = r.below(size.max(1) as u64) as usize;
     match fault {
+        // a value too low
         0 if size > 0 => list.points[0].vector[0] = r.pick(&[-FAR - 1, i64::MIN, -FAR - 512]),
+        // a value too high
         1 if size > 0 => list.points[size - 1].vector[0] = r.pick(&[FAR + 1, i64::MAX, 1 << 40]),
+        // an unused value that is not 0
         2 if size > 0 && used < 4 => list.points[at].vector[used + r.below(4 - used as u64) as usize] = r.pick(&[1, -1, FAR, i64::MIN]),
+        // a bit from n up
         3 if size > 0 && list.n < 64 => list.points[at].model |= 1 << (list.n + r.below(64 - list.n)),
+        // two vectors that fall
         4 if size > 1 => {
             let (a, b) = (list.points[at.max(1)].vector, list.points[at.max(1) - 1].vector);
             list.points[at.max(1)].vector = b;
             list.points[at.max(1) - 1].vector = a;
         }
+        // a vector twice
         5 if size > 0 => {
             let twin = list.points[at];
             list.points.insert(at, twin);
         }
+        // beaten in the last place only
         6 if size > 0 => {
             let mut worse = list.points[at];
             worse.vector[used - 1] += 1;
             list.points.insert(at + 1, worse);
         }
+        // beaten from afar
         7 if size > 0 => {
             let mut worse = list.points[at];
             worse.vector[0] = list.points[size - 1].vector[0] + 1;
             list.points.push(worse);
         }
+        // beaten in every place
         8 if size > 0 => {
             let mut worse = list.points[at];
             worse.vector[..used].iter_mut().for_each(|v| *v += 1);
             list.points.insert(at + 1, worse);
         }
+        // too many points
         9 => {
             let more = 1025 + r.below(8) as i64;
             list.objectives = list.objectives.max(2);
             list.points = (0..more).map(|i| Point { vector: [i, -i, 0, 0], model: 0 }).collect();
         }
+        // objectives out of range
         10 => list.objectives = r.pick(&[0, 5, 255, 256, 65535]),
+        // n out of range
         11 => list.n = r.pick(&[65, 66, 128, 256, 65535]),
+        // one objective fewer than the values have
         12 if used < 4 && size > 0 => list.objectives -= 1,
+        // the first vector last
         13 if size > 2 => list.points.rotate_left(1),
-        _ => return false,
+        _ => {}
     }
-    true
 }
 
 /// A list in lent runs: proper, or with one clause broken, in runs of exact length or longer.
 pub fn lent(r: &mut Rng, round: u64) -> Lent {
     let mut list = list(r);
     if round % 3 == 0 {
-        break_points(r, &mut list, round / 3 % LIST_FAULTS);
+        break_list(r, &mut list, round / 3 % LIST_FAULTS);
     }
     let mut lent = Lent {
         objectives: list.objectives,
@@ -197,12 +230,12 @@ pub fn lent(r: &mut Rng, round: u64) -> Lent {
     lent
 }
 
-pub const FILE_FAULTS: u64 = 20;
+const FILE_FAULTS: u64 = 20;
 
-/// Damages a file; the checks are not touched. Answers false where the file has not what it takes.
-fn damage(r: &mut Rng, file: &mut Vec<u8>, fault: u64) -> bool {
+/// Damages a file; the checks are not touched, and a file that has not what it takes stays as it is.
+fn damage(r: &mut Rng, file: &mut Vec<u8>, fault: u64) {
     if file.is_empty() {
-        return false;
+        return;
     }
     let blocks = file.len() / BLOCK;
     let block = r.below(blocks as u64) as usize;
@@ -210,32 +243,51 @@ fn damage(r: &mut Rng, file: &mut Vec<u8>, fault: u64) -> bool {
     let points = u32::from_be_bytes(file[16..20].try_into().unwrap());
     let mut flip = |r: &mut Rng, at: usize, among: u64| file[at + r.below(among) as usize] ^= 1 << r.below(8);
     match fault {
+        // a kind
         0 => flip(r, block * BLOCK + 2, 2),
+        // a block number
         1 => flip(r, block * BLOCK + 4, 4),
+        // the form
         2 => flip(r, 8, 2),
+        // the reserved bytes
         3 => flip(r, 14, 2),
+        // the rest of the head
         4 => flip(r, 20, 492),
+        // a bit of the points, and so the total
         5 => flip(r, 16, 4),
+        // another number of points
         6 => file[16..20].copy_from_slice(&r.pick(&[points.wrapping_add(1), points.wrapping_sub(1), points.wrapping_add(12), points.wrapping_sub(12), u32::MAX, 1 << 31, 0]).to_be_bytes()),
+        // the tail of a point block
         7 if block > 0 => flip(r, block * BLOCK + 488, 24),
+        // an unused point place
         8 if points % 12 > 0 => flip(r, last + 8 + points as usize % 12 * 40, 40),
+        // objectives
         9 => flip(r, 10, 2),
+        // n
         10 => flip(r, 12, 2),
+        // anything after the number
         11 if block > 0 => flip(r, block * BLOCK + 8, 504),
+        // the last block twice
         12 => file.extend_from_within(last..),
+        // no last block
         13 => file.truncate(last.max(BLOCK)),
+        // a block of zeros more
         14 => file.extend([0; BLOCK]),
+        // a block fewer
         15 => drop(file.drain(block * BLOCK..(block + 1) * BLOCK)),
+        // the last two blocks in the other order
         16 if blocks > 2 => {
             let (a, b) = (last - BLOCK, last);
             (0..BLOCK).for_each(|i| file.swap(a + i, b + i));
         }
+        // a block of any bytes
         17 => file[block * BLOCK..][..BLOCK].iter_mut().for_each(|b| *b = r.next() as u8),
+        // a block of zeros
         18 => file[block * BLOCK..][..BLOCK].fill(0),
+        // another known kind
         19 => file[block * BLOCK + 2..][..2].copy_from_slice(&(if block == 0 { [0, 2] } else { [0, 1] })),
-        _ => return false,
+        _ => {}
     }
-    true
 }
 
 /// Damages a block so that its check no longer fits, as a rule: a bit, another order of bytes, another check, all zeros.
@@ -245,26 +297,22 @@ fn damage_check(r: &mut Rng, file: &mut [u8]) {
     match r.below(5) {
         0 => part[r.below(2) as usize] ^= 1 << r.below(8),
         1 => part.swap(0, 1),
-        3 => part.fill(0),
         2 => part[..2].copy_from_slice(&r.pick(&[[0, 0], [255, 255]])),
+        3 => part.fill(0),
         _ => part[r.below(BLOCK as u64) as usize] ^= 1 << r.below(8),
     }
 }
 
-/// Stores FFFF where a block's check is 0000; answers whether there was one.
-fn ffff_for_0000(file: &mut [u8]) -> bool {
-    let Some(block) = file.chunks_mut(BLOCK).rev().find(|b| check(b) == 0) else { return false };
-    block[..2].fill(0xFF);
-    true
+/// Stores FFFF where a block's check is 0000.
+fn ffff_for_0000(file: &mut [u8]) {
+    file.chunks_mut(BLOCK).filter(|b| check(b) == 0).for_each(|b| b[..2].fill(0xFF));
 }
 
 /// A file: that of a proper list, or damaged with its checks made to fit, or damaged without, or of another length.
 pub fn file(r: &mut Rng, round: u64) -> Vec<u8> {
     let mut list = list(r);
     match round % 8 {
-        0 | 1 => {
-            break_points(r, &mut list, round / 8 % LIST_FAULTS);
-        }
+        0 | 1 => break_list(r, &mut list, round / 8 % LIST_FAULTS),
         2 => to_zero_check(&mut list),
         _ => {}
     }
@@ -274,9 +322,7 @@ pub fn file(r: &mut Rng, round: u64) -> Vec<u8> {
             damage(r, &mut file, round / 8 % FILE_FAULTS);
             file.chunks_exact_mut(BLOCK).for_each(seal);
         }
-        2 => {
-            ffff_for_0000(&mut file);
-        }
+        2 => ffff_for_0000(&mut file),
         3 | 4 => {
             for k in 0..1 + r.below(2) * r.below(2) {
                 damage(r, &mut file, (round / 8 + k * 7) % FILE_FAULTS);
