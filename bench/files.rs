@@ -1,4 +1,5 @@
 //! Times of writing and reading a front file, as ratios to a straightforward codec in the same run. bench/run builds and runs it.
+//! With 1,024 points most of the time goes to the test that none dominates another, with 24 to the blocks and their checks.
 
 use std::time::Instant;
 

@@ -31,8 +31,10 @@ pub fn write_file(objectives: u64, n: u64, points: u64, values: &[i64], models: 
 }
 
 pub fn read_file(file: &[u8], values: &mut [i64], models: &mut [u64]) -> (u32, u32, [u64; 3]) {
-    let mut head = [77; 3];
+    let mut lent = [77; 5];
     let (refusal, value) =
-        split(unsafe { basilurn_read_file(file.as_ptr(), file.len(), values.as_mut_ptr(), values.len(), models.as_mut_ptr(), models.len(), head.as_mut_ptr()) });
+        split(unsafe { basilurn_read_file(file.as_ptr(), file.len(), values.as_mut_ptr(), values.len(), models.as_mut_ptr(), models.len(), lent.as_mut_ptr().add(1)) });
+    let [before, head @ .., after] = lent;
+    assert_eq!((before, after), (77, 77), "reading a file, numbers beside the head");
     (refusal, value, head)
 }
