@@ -1,6 +1,7 @@
 //! Times of writing and reading a front file, as ratios to a straightforward codec in the same run. bench/run builds and runs it.
 //! With 1,024 points most of the time goes to the test that none dominates another, with 24 to the blocks and their checks.
 
+use std::hint::black_box;
 use std::time::Instant;
 
 extern "C" {
@@ -123,15 +124,23 @@ mod plain {
     }
 }
 
-/// The least of several timings of some calls, in microseconds a call.
-fn time(calls: u32, mut f: impl FnMut()) -> f64 {
-    let mut best = f64::MAX;
-    for _ in 0..30 {
-        let t = Instant::now();
-        (0..calls).for_each(|_| f());
-        best = best.min(t.elapsed().as_nanos() as f64 / 1e3 / calls as f64);
+/// In microseconds a call, for so many calls.
+fn time<T>(calls: u32, f: &mut impl FnMut() -> T) -> f64 {
+    let t = Instant::now();
+    for _ in 0..calls {
+        black_box(f());
     }
-    best
+    t.elapsed().as_nanos() as f64 / 1e3 / calls as f64
+}
+
+/// Times both in turn, and prints the least of several timings of each with their ratio.
+fn compare<A, B>(name: &str, calls: u32, mut library: impl FnMut() -> A, mut plain: impl FnMut() -> B) {
+    let (mut a, mut b) = (f64::MAX, f64::MAX);
+    for _ in 0..60 {
+        a = a.min(time(calls, &mut library));
+        b = b.min(time(calls, &mut plain));
+    }
+    println!("{name:<36} {a:>10.1} {b:>10.1} {:>7.2}", a / b);
 }
 
 /// A proper list: the first value rises, the second falls, the others are anywhere.
@@ -153,24 +162,15 @@ fn main() {
         let bytes = write(&mut file) as usize;
         assert_eq!(Ok(bytes), plain::write(4, 64, points, &values, &models, &mut other));
         assert!(file == other && bytes == (1 + points.div_ceil(12)) * 512);
-        let a = time(calls, || {
-            std::hint::black_box(write(&mut file));
-        });
-        let b = time(calls, || {
-            std::hint::black_box(plain::write(4, 64, std::hint::black_box(points), &values, &models, &mut other)).ok();
-        });
-        println!("{:<36} {a:>10.1} {b:>10.1} {:>7.2}", format!("write a file of {points} points"), a / b);
+        let plain_write = || plain::write(4, 64, black_box(points), &values, &models, &mut other);
+        compare(&format!("write a file of {points} points"), calls, || write(&mut file), plain_write);
+
         let (mut v, mut m, mut head) = (vec![0i64; 4096], vec![0u64; 1024], [0u64; 3]);
-        let mut read = || unsafe { basilurn_read_file(file.as_ptr(), bytes, v.as_mut_ptr(), v.len(), m.as_mut_ptr(), m.len(), head.as_mut_ptr()) };
-        assert_eq!(read(), points as u64);
-        let x = time(calls, || {
-            std::hint::black_box(read());
-        });
-        assert!(v[..points * 4] == values && m[..points] == models && head == [4, 64, points as u64]);
-        assert_eq!(plain::read(&other[..bytes], &mut v, &mut m), Ok([4, 64, points]));
-        let y = time(calls, || {
-            std::hint::black_box(plain::read(std::hint::black_box(&other[..bytes]), &mut v, &mut m)).ok();
-        });
-        println!("{:<36} {x:>10.1} {y:>10.1} {:>7.2}", format!("read a file of {points} points"), x / y);
+        let (mut v2, mut m2) = (v.clone(), m.clone());
+        let mut read = || unsafe { basilurn_read_file(file.as_ptr(), bytes, v.as_mut_ptr(), 4096, m.as_mut_ptr(), 1024, head.as_mut_ptr()) };
+        let mut plain_read = || plain::read(black_box(&other[..bytes]), &mut v2, &mut m2);
+        assert_eq!((read(), plain_read()), (points as u64, Ok([4, 64, points])));
+        compare(&format!("read a file of {points} points"), calls, read, plain_read);
+        assert!(v == v2 && m == m2 && v[..points * 4] == values && m[..points] == models && head == [4, 64, points as u64]);
     }
 }
