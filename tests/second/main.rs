@@ -3,15 +3,18 @@
 //! Prints how often each operation and each refusal was reached, and fails if one never was.
 
 mod doc01;
+mod file_inputs;
+mod files;
+mod filing;
 mod inputs;
 mod library;
 
 use inputs::Rng;
 use std::collections::BTreeMap;
 
-type Reached = BTreeMap<(&'static str, u32), u64>;
+pub type Reached = BTreeMap<(&'static str, u32), u64>;
 
-fn differ(what: &str, input: &[u8], got: &dyn std::fmt::Debug, want: &dyn std::fmt::Debug) -> ! {
+pub fn differ(what: &str, input: &[u8], got: &dyn std::fmt::Debug, want: &dyn std::fmt::Debug) -> ! {
     eprintln!("{what}: the library and the second implementation differ\n  input   {:?}\n  library {got:?}\n  second  {want:?}", String::from_utf8_lossy(input));
     std::process::exit(1);
 }
@@ -122,13 +125,24 @@ fn main() {
             compare_read(&mut r, &mut reached, &text);
         }
     }
-    for _ in 0..count {
+    filing::known(&mut r, &mut reached, (50_000 / count.max(1)).max(1) as usize);
+    for round in 0..count {
         let text = inputs::text(&mut r);
         compare_read(&mut r, &mut reached, &text);
         compare_write(&mut r, &mut reached);
         compare_judge(&mut r, &mut reached);
+        filing::compare_write(&mut r, &mut reached, round);
+        filing::compare_read(&mut r, &mut reached, round);
     }
-    let wanted: &[(&str, &[u32])] = &[("read", &[0, 1, 2, 3, 4, 5, 6, 7, 8, 9]), ("write", &[0, 10, 13]), ("judge", &[0, 10, 12])];
+    let wanted: &[(&str, &[u32])] = &[
+        ("read", &[0, 1, 2, 3, 4, 5, 6, 7, 8, 9]),
+        ("write", &[0, 10, 13]),
+        ("judge", &[0, 10, 12]),
+        ("write file", &[0, 13, 14]),
+        ("read file", &[0, 13, 14, 15, 16, 17]),
+        ("read file, the head named", &[16, 17]),
+        ("read file, a later block named", &[16, 17]),
+    ];
     let mut missed = 0;
     for (operation, refusals) in wanted {
         for k in *refusals {

@@ -1,116 +1,14 @@
 // The C boundary: each operation as a function of plain numbers and lent runs. include/basilurn.h declares them for C.
-// An answer is one 64-bit number: the refusal number (0 for done) in the upper 32 bits, the answer number in the lower 32.
-ghost use mathlib.Core.Path.{_≡_};
-ghost use Prim.Native.Nat.{_<_};
-ghost use Rattle.reading.specs.Answers.{readNumber, readValue, readAnswer, readTerms, readRows};
-ghost use Rattle.writing.specs.Answers.{writtenNumber, writtenValue};
-ghost use Rattle.basilurn.specs.Words.{packed, fourOf, noJudgement, PackedWritten, PackedJudged};
-use judge::Judged;
-use judge::Judgement;
-use reading::TextRead;
-use writing::TextWritten;
-
-// The answer of a refusal number and an answer number.
-fn pack(number: u64, value: u64) -> u64
-    requires { ⌜ number < 100 ⌝ }
-    ensures { λ r. ⌜ r ≡ packed number value ⌝ }
-{
-    number * 4294967296 + value % 4294967296
-}
-
-// The answer of reading a text.
-fn pack_read(r: TextRead) -> u64
-    ensures { λ w. ⌜ w ≡ packed (readNumber r) (readValue r) ⌝ }
-{
-    match r {
-        TextRead::Done(n) => pack(0, n),
-        TextRead::ShortTable => pack(1, 0),
-        TextRead::LongText => pack(2, 0),
-        TextRead::Grammar(s) => pack(3, s),
-        TextRead::LateObjective(s) => pack(4, s),
-        TextRead::TooMany(s) => pack(5, s),
-        TextRead::OutOfRange(s) => pack(6, s),
-        TextRead::NoVariable(s) => pack(7, s),
-        TextRead::TooManyTerms(s) => pack(8, s),
-        TextRead::NoObjective => pack(9, 0),
-    }
-}
-
-// Reads instance text into lent tables: n, or the statement.
-#[no_mangle]
-pub extern "C" fn basilurn_read_text(text: &[u8], terms: &mut [i32], rows: &mut [i64]) -> u64
-    ensures answer { λ r. ⌜ r ≡ packed (readNumber (readAnswer (now (text .entry)) (now (terms .entry)) (now (rows .entry)))) (readValue (readAnswer (now (text .entry)) (now (terms .entry)) (now (rows .entry)))) ⌝ }
-    ensures left_terms { λ _. ⌜ now (terms .exit) ≡ readTerms (now (text .entry)) (now (terms .entry)) (now (rows .entry)) ⌝ }
-    ensures left_rows { λ _. ⌜ now (rows .exit) ≡ readRows (now (text .entry)) (now (terms .entry)) (now (rows .entry)) ⌝ }
-{
-    let r = reading::read_text(text, terms, rows);
-    pack_read(r)
-}
-
-// The answer of writing a text.
-fn pack_written(r: TextWritten) -> u64
-    ensures { λ w. ⌜ w ≡ packed (writtenNumber r) (writtenValue r) ⌝ }
-{
-    match r {
-        TextWritten::Done(bytes) => pack(0, bytes),
-        TextWritten::NotInstance => pack(10, 0),
-        TextWritten::ShortOutput => pack(13, 0),
-    }
-}
-
-// Writes an instance as text: the bytes written.
-#[no_mangle]
-pub extern "C" fn basilurn_write_text(terms: &[i32], rows: &[i64], out: &mut [u8]) -> u64
-    ensures { λ r. ⌜ PackedWritten (now (terms .entry)) (now (rows .entry)) (now (out .entry)) (now (out .exit)) r ⌝ }
-{
-    let r = writing::write_text(terms, rows, out);
-    pack_written(r)
-}
-
-// A judgement of four values 0 and row 0, for a refusal.
-fn no_judgement() -> Judgement
-    ensures { λ r. ⌜ r ≡ noJudgement ⌝ }
-{
-    Judgement {
-        first: 0,
-        second: 0,
-        third: 0,
-        fourth: 0,
-        row: 0,
-    }
-}
-
-// Stores the four values.
-fn put_values(values: &mut [i64; 4], j: Judgement)
-    ensures { λ _. ⌜ now (values .exit) ≡ fourOf j ⌝ }
-{
-    let v = [j.first, j.second, j.third, j.fourth];
-    *values = v;
-}
-
-// Judges one assignment: the first unmet row (0 if none), and its vector in `values`.
-#[no_mangle]
-pub extern "C" fn basilurn_judge(
-    terms: &[i32],
-    rows: &[i64],
-    assignment: u64,
-    values: &mut [i64; 4],
-) -> u64
-    ensures { λ r. ⌜ PackedJudged (now (terms .entry)) (now (rows .entry)) assignment (now (values .exit)) r ⌝ }
-{
-    let r = judge::judge_assignment(terms, rows, assignment);
-    match r {
-        Judged::Done(j) => {
-            put_values(values, j);
-            pack(0, j.row)
-        }
-        Judged::NotInstance => {
-            put_values(values, no_judgement());
-            pack(10, 0)
-        }
-        Judged::BitsBeyond => {
-            put_values(values, no_judgement());
-            pack(12, 0)
-        }
-    }
-}
+//
+// basilurn_read_text(text, terms, rows)                                 n, or the statement
+// basilurn_write_text(terms, rows, out)                                 the bytes written
+// basilurn_judge(terms, rows, assignment, values)                       the first unmet row, 0 if none; the vector in `values`
+// basilurn_write_file(objectives, n, points, values, models, file)      the bytes written
+// basilurn_read_file(file, values, models, head)                        the points, or the block; objectives, n and points in `head`
+//
+// An answer is one 64-bit number: the refusal number (0 for done) in the upper 32 bits, the answer number in the lower 32
+// (specs/Words.antt). Each contract is that of the operation under it, over such a number.
+mod packing; // packing.rt: an answer as one number
+mod texts; // texts.rt: instance text
+mod judging; // judging.rt: one assignment
+mod filing; // filing.rt: front files

@@ -4,8 +4,8 @@ use Rattle.writing.specs.declared.TextWritten.{TextWritten}
 use Rattle.writing.specs.Answers.{writtenNumber, writtenValue}
 use Rattle.basilurn.specs.Words.{packed}
 use borrow.Author.Needs.{needs}
-use Rattle.basilurn.proofs.pack_written.Statement.{statement}
-use Rattle.basilurn.proofs.pack_written.Tie as tie
+use Rattle.basilurn.proofs.texts.pack_written.Statement.{statement}
+use Rattle.basilurn.proofs.texts.pack_written.Tie as tie
 
 enum-known-r : tie.Need-enum-known-r
 enum-known-r c = search needs

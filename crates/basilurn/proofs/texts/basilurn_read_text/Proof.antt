@@ -4,8 +4,8 @@ use Rattle.reading.specs.declared.texts.TextRead.{TextRead}
 use Rattle.reading.specs.Answers.{readNumber, readValue}
 use Rattle.basilurn.specs.Words.{packed}
 use borrow.Author.Needs.{needs}
-use Rattle.basilurn.proofs.basilurn_read_text.Statement.{statement}
-use Rattle.basilurn.proofs.basilurn_read_text.Tie as tie
+use Rattle.basilurn.proofs.texts.basilurn_read_text.Statement.{statement}
+use Rattle.basilurn.proofs.texts.basilurn_read_text.Tie as tie
 
 read-text-requires : tie.Need-read-text-requires
 read-text-requires c κs = search needs

@@ -4,8 +4,8 @@ use Rattle.reading.specs.declared.texts.TextRead.{TextRead}
 use Rattle.reading.specs.Answers.{readNumber, readValue}
 use Rattle.basilurn.specs.Words.{packed}
 use borrow.Author.Needs.{needs}
-use Rattle.basilurn.proofs.pack_read.Statement.{statement}
-use Rattle.basilurn.proofs.pack_read.Tie as tie
+use Rattle.basilurn.proofs.texts.pack_read.Statement.{statement}
+use Rattle.basilurn.proofs.texts.pack_read.Tie as tie
 
 enum-known-r : tie.Need-enum-known-r
 enum-known-r c = search needs

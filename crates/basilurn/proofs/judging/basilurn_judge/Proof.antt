@@ -2,10 +2,11 @@
 use mathlib.Core.Path.{_≡_, refl, sym, ap, _∙_}
 use Rattle.judge.specs.declared.judging.Judged.{Judged}
 use Rattle.judge.specs.Answers.{answerOf}
-use Rattle.basilurn.specs.Words.{packed, fourOf}
+use Rattle.basilurn.specs.Words.{packed}
+use Rattle.basilurn.specs.Judgements.{fourOf}
 use borrow.Author.Needs.{needs}
-use Rattle.basilurn.proofs.basilurn_judge.Statement.{statement}
-use Rattle.basilurn.proofs.basilurn_judge.Tie as tie
+use Rattle.basilurn.proofs.judging.basilurn_judge.Statement.{statement}
+use Rattle.basilurn.proofs.judging.basilurn_judge.Tie as tie
 
 judge-assignment-requires : tie.Need-judge-assignment-requires
 judge-assignment-requires c κs = search needs
