@@ -60,6 +60,13 @@ uint64_t basilurn_write_text(const int32_t *terms, size_t terms_len, const int64
  * Refuses 10 (the tables are not an instance), 12 (the assignment has a bit from n up): four values 0, answer 0. */
 uint64_t basilurn_judge(const int32_t *terms, size_t terms_len, const int64_t *rows, size_t rows_len, uint64_t assignment, int64_t values[4]);
 
+/* Lists the front of the instance that the tables hold: every best trade between the objectives, once, in rising order, first objective first,
+ * each with the smallest-numbered assignment that has it. Answers the number of points. A point is four numbers of `values`, unused ones 0, and
+ * one of `models`. The room R is the least of 1,024, a quarter of the length of `values` rounded down, and the length of `models`.
+ * Refuses 10 (the tables are not an instance): both runs as found. Refuses 11 (the front has more than R points) with R: the first R points.
+ * Done and 11: the points stand at the beginning of both runs, the rest of them as found. Uses about 300 KB of stack. */
+uint64_t basilurn_list(const int32_t *terms, size_t terms_len, const int64_t *rows, size_t rows_len, int64_t *values, size_t values_len, uint64_t *models, size_t models_len);
+
 /* Writes the first `points` points of both runs as a front file and answers the number of bytes, at most 44,544.
  * Refuses 14 (the list is not proper, also where objectives, n or points are out of range or a run is too short for the points),
  * 13 (the output is shorter than the file): the output is as found.

@@ -34,6 +34,10 @@ int main(void) {
     expect("writing T", a, 0, (uint32_t)len, memcmp(text, T, len) == 0);
     a = basilurn_judge(terms, BASILURN_TERM_ROOM, rows, BASILURN_ROW_ROOM, 5, vector);
     expect("judging x1 and x3", a, 0, 0, memcmp(vector, values + 4, sizeof vector) == 0);
+    a = basilurn_list(terms, BASILURN_TERM_ROOM, rows, BASILURN_ROW_ROOM, values_read, BASILURN_VALUE_ROOM, models_read, BASILURN_MAX_POINTS);
+    expect("the front of T", a, 0, 2, memcmp(values_read, values, sizeof values) == 0 && memcmp(models_read, models, sizeof models) == 0);
+    a = basilurn_list(terms, BASILURN_TERM_ROOM, rows, BASILURN_ROW_ROOM, values_read, 4, models_read, BASILURN_MAX_POINTS);
+    expect("the front of T with room for one point", a, 11, 1, 1);
     a = basilurn_write_file(2, 3, 2, values, 8, models, 2, file, sizeof file);
     expect("the file of T", a, 0, 2 * BASILURN_BLOCK, memcmp(file, checks, 2) == 0 && memcmp(file + BASILURN_BLOCK, checks + 2, 2) == 0);
     a = basilurn_read_file(file, 2 * BASILURN_BLOCK, values_read, BASILURN_VALUE_ROOM, models_read, BASILURN_MAX_POINTS, head);

@@ -4,6 +4,7 @@ extern "C" {
     fn basilurn_read_text(text: *const u8, n: usize, terms: *mut i32, t: usize, rows: *mut i64, r: usize) -> u64;
     fn basilurn_write_text(terms: *const i32, t: usize, rows: *const i64, r: usize, out: *mut u8, n: usize) -> u64;
     fn basilurn_judge(terms: *const i32, t: usize, rows: *const i64, r: usize, a: u64, values: *mut i64) -> u64;
+    fn basilurn_list(terms: *const i32, t: usize, rows: *const i64, r: usize, values: *mut i64, v: usize, models: *mut u64, m: usize) -> u64;
     fn basilurn_write_file(objectives: u64, n: u64, points: u64, values: *const i64, v: usize, models: *const u64, m: usize, file: *mut u8, f: usize) -> u64;
     fn basilurn_read_file(file: *const u8, f: usize, values: *mut i64, v: usize, models: *mut u64, m: usize, head: *mut u64) -> u64;
 }
@@ -24,6 +25,10 @@ pub fn judge(terms: &[i32], rows: &[i64], a: u64) -> (u32, [i64; 4], u32) {
     let mut values = [77; 4];
     let (refusal, row) = split(unsafe { basilurn_judge(terms.as_ptr(), terms.len(), rows.as_ptr(), rows.len(), a, values.as_mut_ptr()) });
     (refusal, values, row)
+}
+
+pub fn list(terms: &[i32], rows: &[i64], values: &mut [i64], models: &mut [u64]) -> (u32, u32) {
+    split(unsafe { basilurn_list(terms.as_ptr(), terms.len(), rows.as_ptr(), rows.len(), values.as_mut_ptr(), values.len(), models.as_mut_ptr(), models.len()) })
 }
 
 pub fn write_file(objectives: u64, n: u64, points: u64, values: &[i64], models: &[u64], file: &mut [u8]) -> (u32, u32) {

@@ -6,6 +6,7 @@ mod doc01;
 mod file_inputs;
 mod files;
 mod filing;
+mod fronts;
 mod inputs;
 mod library;
 
@@ -125,12 +126,14 @@ fn main() {
             compare_read(&mut r, &mut reached, &text);
         }
     }
+    fronts::known(&mut reached);
     filing::known(&mut r, &mut reached, (50_000 / count.max(1)).max(1) as usize);
     for round in 0..count {
         let text = inputs::text(&mut r);
         compare_read(&mut r, &mut reached, &text);
         compare_write(&mut r, &mut reached);
         compare_judge(&mut r, &mut reached);
+        fronts::compare(&mut r, &mut reached);
         filing::compare_write(&mut r, &mut reached, round);
         filing::compare_read(&mut r, &mut reached, round);
     }
@@ -138,6 +141,7 @@ fn main() {
         ("read", &[0, 1, 2, 3, 4, 5, 6, 7, 8, 9]),
         ("write", &[0, 10, 13]),
         ("judge", &[0, 10, 12]),
+        ("list", &[0, 10, 11]),
         ("write file", &[0, 13, 14]),
         ("read file", &[0, 13, 14, 15, 16, 17]),
         ("read file, the head named", &[16, 17]),

@@ -19,9 +19,9 @@ ghost use Rattle.front.specs.Answers.{ListedAs};
 
 // The answer of listing.
 pub enum Listed {
-    Done(usize), // done: the number of points
+    Done(u64), // done: the number of points
     NotInstance, // 10: tables are not an instance
-    Larger(usize), // 11: front larger than R; R
+    Larger(u64), // 11: front larger than R; R
 }
 
 // The lesser of two.
@@ -118,7 +118,7 @@ pub fn list_front(terms: &[i32], rows: &[i64], values: &mut [i64], models: &mut 
     let out = list_instance(terms, rows, sizes, room, values, models);
     let all = out.all;
     if all {
-        return Listed::Done(out.points);
+        return Listed::Done(out.points as u64);
     }
-    Listed::Larger(out.points)
+    Listed::Larger(out.points as u64)
 }
