@@ -1,3 +1,4 @@
+-- Each case of the answer is the document's, by what the check of tables and the list answered.
 use mathlib.Core.Path.{_≡_, refl, sym, ap, _∙_}
 use mathlib.Core.Bool.{true, false}
 use Rattle.front.proofs.AnswerLaws.{checked-sizes, checked-refused, room-fits, listed-all, listed-first}

@@ -1,3 +1,4 @@
+-- Invariant (Listing): m points are listed, and they are how the front begins. Measure: the room left.
 use borrow.Author.Needs.{needs}
 use mathlib.Core.Path.{_≡_, refl, sym, ap, _∙_, subst}
 use mathlib.Core.Bool.{Bool, true, false}

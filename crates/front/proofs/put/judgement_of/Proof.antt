@@ -1,3 +1,4 @@
+-- Judging an assignment of an instance is done.
 use Rattle.front.proofs.PutLaws.{judged-four, judged-instance, judged-bits}
 use borrow.Author.Needs.{needs}
 use Rattle.front.proofs.put.judgement_of.Statement.{statement}

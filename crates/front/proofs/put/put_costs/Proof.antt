@@ -1,3 +1,4 @@
+-- Invariant (CostsPut): the first numbers are stored, and nothing before their place changes. Measure: the numbers left.
 use borrow.Author.Needs.{needs}
 use mathlib.Core.Path.{_≡_}
 use Prim.Native.Nat.{ℕ, _+_, _*_, _-_, _≤_, _<_}

@@ -1,3 +1,4 @@
+-- The sides are spread from the objective's terms, and the gaps and dear sides settled from them.
 use mathlib.Core.Path.{_≡_, refl, sym, ap, _∙_, subst}
 use Prim.Native.Nat.{ℕ, _+_, _*_, _-_, _≤_, _<_}
 use native.Mathlib.Omega.{arith}

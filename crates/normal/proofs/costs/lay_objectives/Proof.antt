@@ -1,3 +1,4 @@
+-- Invariant (PricedAll): the first i objectives are laid out. Measure: the objectives left.
 use borrow.Author.Needs.{needs}
 use mathlib.Core.Path.{_≡_, refl, sym, ap, _∙_, subst}
 use Prim.Native.Nat.{ℕ, suc, _+_, _*_, _-_, _≤_, _<_}

@@ -1,0 +1,2 @@
+-- Read Lines: what the listing program prints.
+pub mod Lines

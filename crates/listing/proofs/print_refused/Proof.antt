@@ -1,0 +1,44 @@
+-- The line fits its 256 bytes.
+use mathlib.Core.Path.{_≡_, refl, sym, ap, _∙_}
+use Prim.Native.Nat.{ℕ, suc, _+_, _-_, _*_, _≤_, _<_}
+use native.Mathlib.Omega.{arith}
+use lib.IntN.{ℤ, pos}
+use lib.ListN.{length, getD, take}
+use lib.Seq.{length-take-le}
+use Rattle.lines.proofs.LineLaws.{refused-most}
+use borrow.Author.Needs.{needs}
+use Rattle.listing.proofs.print_refused.Statement.{statement}
+use Rattle.listing.proofs.print_refused.Tie as tie
+use Rattle.listing.proofs.print_refused.Reads as reads
+use Rattle.listing.proofs.print_refused.Lts as lts
+use Rattle.io.proofs.write_all.Reads as write-all-reads
+use Rattle.lines.proofs.put_refused.Reads as put-refused-reads
+
+slice-aggregate-put-refused : tie.Need-slice-aggregate-put-refused
+slice-aggregate-put-refused c = search needs
+
+put-refused-requires : tie.Need-put-refused-requires
+put-refused-requires c κs = search needs
+
+array-share-prefix-line : tie.Need-array-share-prefix-line
+array-share-prefix-line c = omega (arith, c .before .put-refused .ensures .1, c .before .put-refused .kept, refused-most (c .before .before .before .args .number) (c .before .before .before .args .statement))
+
+slice-aggregate-write-all : tie.Need-slice-aggregate-write-all
+slice-aggregate-write-all c = sym (length-take-le _ _ (omega (arith, c .before .before .put-refused .ensures .1, c .before .before .put-refused .kept, refused-most (c .before .before .before .before .args .number) (c .before .before .before .before .args .statement))))
+
+write-all-requires : tie.Need-write-all-requires
+write-all-requires c κs = search needs
+
+returns : tie.Need-returns
+returns c = search needs
+
+pub print-refused-spec : {M : Type 1} → statement M
+print-refused-spec =
+    tie.close
+    (tie.spec
+    slice-aggregate-put-refused
+    put-refused-requires
+    array-share-prefix-line
+    slice-aggregate-write-all
+    write-all-requires
+    returns)
