@@ -1,10 +1,10 @@
 -- Laws of listing's answers: that the code's cases are the document's; then, for callers, that answers are determined and the list is complete.
 -- Assumes nothing.
-use mathlib.Core.Path.{_≡_, refl, sym, ap, ap₂, _∙_, subst}
+use mathlib.Core.Path.{_≡_, refl, sym, ap, _∙_, subst}
 use mathlib.Core.Logic.{_↔_}
 use mathlib.Core.Bool.{Bool, true, false}
-use mathlib.Core.List.{List, [], _∷_, _++_, map, List·Memᴰ, List·Memᴰ·head, List·Memᴰ·not-nil}
-use Prim.Native.Nat.{ℕ, zero, suc, _+_, _*_, _/_, _^_, _≤_, _<_, min}
+use mathlib.Core.List.{List, [], _∷_, List·Memᴰ, List·Memᴰ·head, List·Memᴰ·not-nil}
+use Prim.Native.Nat.{ℕ, _*_, _≤_, _<_}
 use native.Mathlib.Nat.{div-mul-le-self}
 use native.Mathlib.Omega.{arith}
 use lib.IntN.{ℤ, pos}
@@ -19,12 +19,12 @@ use Rattle.instance.specs.Tables.{IsInstance}
 use Rattle.instance.specs.Meaning.{Instance, meaning, vector, Feasible}
 use Rattle.judge.specs.Judging.{padded}
 use Rattle.judge.proofs.VectorLaws.{padded-getD}
-use Rattle.points.specs.Limits.{maxPoints, pointValues}
+use Rattle.points.specs.Limits.{maxPoints}
 use Rattle.points.specs.Vectors.{LeAll}
-use Rattle.points.specs.Fronts.{Candidate, IsFront}
+use Rattle.points.specs.Fronts.{Candidate}
 use Rattle.points.proofs.PlaceLaws.{leAll-at}
-use Rattle.front.specs.Listing.{CandidateOf, FrontOf, room, valuesLeft, modelsLeft, Lists}
-use Rattle.front.specs.Answers.{Answer, answerOf, ListedAll, ListedFirst, RefusedTables, ListedAs}
+use Rattle.front.specs.Listing.{FrontOf, room, valuesLeft, modelsLeft, Lists}
+use Rattle.front.specs.Answers.{Answer, ListedAs}
 use Rattle.front.specs.declared.answer.Listed.{Listed}
 use Rattle.front.specs.declared.answer.Listed.the-variants.{Done, NotInstance, Larger}
 use Rattle.front.proofs.FrontLaws.{front-only}
@@ -106,7 +106,7 @@ pub record AtLeastAsGood (i : Instance) (xs : List Candidate) (a : ℕ) : Type 0
   pub own : by .vector ≡ padded (vector i (by .model))
   pub at-most : LeAll (by .vector) (padded (vector i a))
 
--- The same in costs: the value of each objective.
+-- The same by objective: the value of each is at most that of a.
 pub good-value : {i : Instance} {xs : List Candidate} {a : ℕ} (g : AtLeastAsGood i xs a) (j : ℕ) → j < 4 → getD (vector i (g .by .model)) j (pos 0) ≤ℤ getD (vector i a) j (pos 0)
 good-value {i} {xs} {a} g j h =
     let v = vector i (g .by .model) in
@@ -114,12 +114,11 @@ good-value {i} {xs} {a} g j h =
     subst (λ (z : ℤ). z ≤ℤ getD (vector i a) j (pos 0)) (padded-getD v j h)
     (subst (λ (z : ℤ). getD (padded v) j (pos 0) ≤ℤ z) (padded-getD (vector i a) j h) (leAll-at (padded v) (padded (vector i a)) l j))
 
-module _ {i : Instance} {xs : List Candidate} (f : FrontOf i xs) where
-  pub front-good : (a : ℕ) → Feasible i a → AtLeastAsGood i xs a
-  front-good a h =
-      let p = f .complete (candidate i a) (record { feasible = h; has-vector = refl }) in
-      let m = f .members (p .by) (p .member) in
-      record { by = p .by; listed = p .member; feasible = m .feasible; own = m .has-vector; at-most = p .covers .at-most }
+pub front-good : {i : Instance} {xs : List Candidate} → FrontOf i xs → (a : ℕ) → Feasible i a → AtLeastAsGood i xs a
+front-good {i} f a h =
+    let p = f .complete (candidate i a) (record { feasible = h; has-vector = refl }) in
+    let m = f .members (p .by) (p .member) in
+    record { by = p .by; listed = p .member; feasible = m .feasible; own = m .has-vector; at-most = p .covers .at-most }
 
 none-listed : (xs : List Candidate) (x : Candidate) → length xs ≡ 0 → List·Memᴰ x xs → ⊥
 none-listed [] x e m = List·Memᴰ·not-nil m

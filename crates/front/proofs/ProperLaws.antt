@@ -2,15 +2,15 @@
 -- Assumes nothing.
 use mathlib.Core.Path.{_≡_, refl, sym, ap, ap₂, _∙_, subst}
 use mathlib.Core.List.{List, [], _∷_, _++_, append-assoc, List·Memᴰ, List·Memᴰ·head, List·Memᴰ·tail}
-use Prim.Native.Nat.{ℕ, zero, suc, _+_, _*_, _/_, _%_, _^_, _≤_, _<_, min}
+use Prim.Native.Nat.{ℕ, zero, suc, _+_, _*_, _/_, _%_, _^_, _≤_, _<_}
 use native.Mathlib.Nat.{mod-lt, div-add-mod'}
 use native.Mathlib.Omega.{arith}
 use lib.IntN.{ℤ, pos, natAbs}
-use lib.ListN.{length, getD, take, drop, length-append, length-map, length-take, List·getD-append, List·getD-map}
+use lib.ListN.{length, getD, take, drop, length-append, length-map, List·getD-append, List·getD-map}
 use lib.Seq.{getD-append-add, length-take-le}
 use Rattle.instance.specs.Lists.{tabulate}
 use Rattle.instance.specs.Tables.{objectivesIn, IsInstance}
-use Rattle.instance.specs.Meaning.{Instance, meaning, vector}
+use Rattle.instance.specs.Meaning.{meaning, vector}
 use Rattle.instance.proofs.ListLaws.{tabulate-list}
 use Rattle.instance.proofs.InstanceLaws.{variables-le}
 use Rattle.instance.proofs.MeaningLaws.{instance-within}
@@ -19,14 +19,13 @@ use Rattle.judge.proofs.VectorLaws.{padded-as, padded-getD, padded-take, value-
 use Rattle.points.specs.Limits.{maxPoints, maxValue}
 use Rattle.points.specs.Vectors.{Dominates}
 use Rattle.points.specs.Fronts.{Candidate, Rising}
-use Rattle.points.specs.Lists.{valuesAt, pointAt, Proper}
+use Rattle.points.specs.Lists.{pointAt, Proper}
 use Rattle.points.proofs.FrontLaws.{candidate-same}
 use Rattle.points.proofs.RunLaws.{take-member, take-rising, runs-rise, runs-apart}
 use Rattle.front.specs.Listing.{CandidateOf, FrontOf, room, valuesOf, modelsOf, valuesLeft, modelsLeft}
 use Rattle.front.specs.Answers.{Answer, ListedAs}
 use Rattle.front.specs.declared.answer.Listed.the-variants.{Done, Larger}
 use Rattle.front.proofs.StepLaws.{values-length, candidate-four}
-use Rattle.front.proofs.AnswerLaws.{room-fits}
 
 -- ---- points by place
 
@@ -131,12 +130,15 @@ proper-as {o} {n} {j} {k} {vs} {vs′} {ms} {ms′} e f g p =
     subst (λ (q : ℕ). Proper o n q vs ms) (sym e) (subst (λ (l : List ℤ). Proper o n k l ms) (sym f) (subst (λ (l : List ℕ). Proper o n k vs′ l) (sym g) p))
 
 module _ {ts rs vs : List ℤ} {ms : List ℕ} {vs′ : List ℤ} {ms′ : List ℕ} {k : ℕ} where
-  -- The first k points of the runs are the front.
+  -- The first k points of the runs are the front: what is known of it (front-good of AnswerLaws) is known of them.
   pub listed-points : (l : ListedAs ts rs vs ms vs′ ms′ (Done k)) → tabulate (pointAt vs′ ms′) 0 k ≡ l .front
   listed-points l =
       ap (λ (n : ℕ). tabulate (pointAt vs′ ms′) 0 n) (ap (λ (a : Answer). a .points) (l .answer))
       ∙ ap₂ (λ (p : List ℤ) (q : List ℕ). tabulate (pointAt p q) 0 (length (l .front))) (l .values) (l .models)
       ∙ runs-points (l .front) (λ x m. candidate-four x (l .is-front .members x m)) vs ms
+
+  pub listed-front : ListedAs ts rs vs ms vs′ ms′ (Done k) → FrontOf (meaning ts rs) (tabulate (pointAt vs′ ms′) 0 k)
+  listed-front l = subst (FrontOf (meaning ts rs)) (sym (listed-points l)) (l .is-front)
 
   -- A front that is done is proper,
   pub listed-proper : ListedAs ts rs vs ms vs′ ms′ (Done k) → Proper (objectivesIn rs) ((meaning ts rs) .variables) k vs′ ms′
