@@ -3,8 +3,8 @@
 // list_front(terms, rows, values, models)   lists the points, or refuses 10 or 11
 //
 // The caller lends the tables and the runs for the points; scratch is local. Read specs/Listing.antt (candidates, the room, what the runs
-// then hold) and specs/Answers.antt (the contract). A caller needs proofs/AnswerLaws.antt beside them: answers are determined, the list is
-// complete, and it is proper.
+// then hold) and specs/Answers.antt (the contract). A caller needs proofs/AnswerLaws.antt and proofs/ProperLaws.antt beside them: answers are
+// determined, the list is complete, and it is proper.
 // The lister is built on what judging, `normal` and `advancing` promise, and on none of their code.
 mod order; // order.rt: the order of branching, a hint
 mod put; // put.rt: one point into the runs

@@ -1,13 +1,14 @@
--- Fronts that stand in runs: the front of candidates and what a proper list asks of its order are one.
+-- Lists of points that stand in runs: what a front asks of its order, and a proper list of its numbers, are one. So it is for the first points.
 use mathlib.Core.Path.{_≡_, subst}
-use mathlib.Core.List.{List, List·Memᴰ}
+use mathlib.Core.List.{List, [], _∷_, List·Memᴰ, Memᴰ·append-left}
 use Prim.Native.Nat.{ℕ, zero, suc, _+_, _-_, _<_}
 use native.Mathlib.Omega.{arith}
 use lib.IntN.{ℤ}
+use lib.ListN.{take, drop, take-append-drop}
 use Rattle.instance.specs.Lists.{tabulate}
 use Rattle.instance.proofs.ListLaws.{tabulate-each, tabulate-member}
-use Rattle.points.specs.Vectors.{Lex}
-use Rattle.points.specs.Fronts.{Candidate, Rising, IsFront}
+use Rattle.points.specs.Vectors.{Lex, Dominates}
+use Rattle.points.specs.Fronts.{Candidate, Rising}
 use Rattle.points.specs.Lists.{valuesAt, pointAt, RisingAt, NoneDominates}
 use Rattle.points.proofs.FrontLaws.{rising-first, rising-rest}
 
@@ -43,19 +44,29 @@ module _ (g : ℕ → Candidate) where
         subst (λ (k : ℕ). Lex (g k .vector) (g (suc first + j) .vector)) e (subst (λ (k : ℕ). Lex (g (first + suc i) .vector) (g k .vector)) d (h (suc i) (suc j) (omega arith) (omega arith)))),
   )
 
--- ---- the points of two runs that are a front rise, and none dominates another
-module _ {C : Candidate → Type 0} {Before : ℕ → ℕ → Type 0} (vs : List ℤ) (ms : List ℕ) (points : ℕ) (f : IsFront C Before (tabulate (pointAt vs ms) 0 points)) where
+-- ---- Rising, of the first points
+pub take-member : (k : ℕ) (xs : List Candidate) (x : Candidate) → List·Memᴰ x (take k xs) → List·Memᴰ x xs
+take-member k xs x m = subst (λ (l : List Candidate). List·Memᴰ x l) (take-append-drop k xs) (Memᴰ·append-left (drop k xs) m)
+
+pub take-rising : (k : ℕ) (xs : List Candidate) → Rising xs → Rising (take k xs)
+unfolding Rising
+take-rising zero xs r = tt
+take-rising (suc k) [] r = tt
+take-rising (suc k) (x ∷ xs) r = (λ y m. rising-first x xs r y (take-member k xs y m), take-rising k xs (rising-rest x xs r))
+
+-- ---- the points of two runs, as the list that they are, and by index
+module _ (vs : List ℤ) (ms : List ℕ) (points : ℕ) where
   member : (i : ℕ) → i < points → List·Memᴰ (pointAt vs ms i) (tabulate (pointAt vs ms) 0 points)
   member i h =
       let e : 0 + i ≡ i = omega arith in
       subst (λ (k : ℕ). List·Memᴰ (pointAt vs ms k) (tabulate (pointAt vs ms) 0 points)) e (tabulate-member (pointAt vs ms) 0 points i h)
 
-  pub front-rises : RisingAt points vs
-  front-rises k h =
+  pub runs-rise : Rising (tabulate (pointAt vs ms) 0 points) → RisingAt points vs
+  runs-rise r k h =
       let e : 0 + k ≡ k = omega arith in
       let d : 0 + (k + 1) ≡ k + 1 = omega arith in
       subst (λ (i : ℕ). Lex (valuesAt vs i) (valuesAt vs (k + 1))) e
-      (subst (λ (i : ℕ). Lex (valuesAt vs (0 + k)) (valuesAt vs i)) d (rising-index (pointAt vs ms) 0 points (f .rising) k (k + 1) (omega arith) h))
+      (subst (λ (i : ℕ). Lex (valuesAt vs (0 + k)) (valuesAt vs i)) d (rising-index (pointAt vs ms) 0 points r k (k + 1) (omega arith) h))
 
-  pub front-apart : NoneDominates points vs
-  front-apart i j h l d = f .apart (pointAt vs ms i) (pointAt vs ms j) (member i h) (member j l) d
+  pub runs-apart : ((x y : Candidate) → List·Memᴰ x (tabulate (pointAt vs ms) 0 points) → List·Memᴰ y (tabulate (pointAt vs ms) 0 points) → Dominates (x .vector) (y .vector) → ⊥) → NoneDominates points vs
+  runs-apart apart i j h l d = apart (pointAt vs ms i) (pointAt vs ms j) (member i h) (member j l) d
