@@ -11,6 +11,9 @@ use Rattle.judge.specs.declared.judging.Judged.{Judged}
 use Rattle.judge.specs.Answers.{answerOf}
 use Rattle.judge.proofs.AnswerLaws.{judged-unique}
 use Rattle.blocks.proofs.ByteLaws.{Bytes}
+use Rattle.front.specs.declared.answer.Listed.{Listed}
+use Rattle.front.specs.Answers.{answerOf as listedAnswer}
+use Rattle.front.proofs.AnswerLaws.{listed-unique}
 use Rattle.files.specs.declared.write.FileWritten.{FileWritten}
 use Rattle.files.specs.declared.read.FileRead.{FileRead}
 use Rattle.files.specs.Written.{writtenNumber as filedNumber, writtenValue as filedValue}
@@ -19,6 +22,7 @@ use Rattle.files.proofs.AnswerLaws.{written-unique as filed-unique, read-unique
 use Rattle.basilurn.specs.Words.{packed}
 use Rattle.basilurn.specs.Texts.{PackedWritten}
 use Rattle.basilurn.specs.Judgements.{PackedJudged}
+use Rattle.basilurn.specs.Listed.{PackedListed}
 use Rattle.basilurn.specs.Filed.{takenValue, headNumbers, PackedFiled, PackedTaken}
 
 -- ---- writing text
@@ -32,6 +36,12 @@ pub packed-judged-unique : {ts rs : List ℤ} {a : ℕ} {vs vs′ : List ℤ} {r
 packed-judged-unique {ts} {rs} {a} x y =
     let same = judged-unique ts rs a (x .answer) (y .answer) (x .allowed) (y .allowed) in
     (x .word ∙ (ap (λ (j : Judged). packed (answerOf j .number) (answerOf j .row)) same ∙ sym (y .word)), x .values-are ∙ (ap (λ (j : Judged). answerOf j .values) same ∙ sym (y .values-are)))
+
+-- ---- listing
+pub packed-listed-unique : {ts rs vs vs′ vs″ : List ℤ} {ms ms′ ms″ : List ℕ} {r r′ : ℕ} → PackedListed ts rs vs ms vs′ ms′ r → PackedListed ts rs vs ms vs″ ms″ r′ → (r ≡ r′) × ((vs′ ≡ vs″) × (ms′ ≡ ms″))
+packed-listed-unique {ts} {rs} {vs} {vs′} {vs″} {ms} {ms′} {ms″} x y =
+    let same = listed-unique ts rs vs ms (x .answer) (y .answer) vs′ vs″ ms′ ms″ (x .allowed) (y .allowed) in
+    (x .word ∙ (ap (λ (a : Listed). packed (listedAnswer a .number) (listedAnswer a .points)) (same .0) ∙ sym (y .word)), (same .1, same .2))
 
 -- ---- writing a file
 pub packed-filed-unique : {o n p : ℕ} {vs : List ℤ} {ms found left left′ : List ℕ} {r r′ : ℕ}
