@@ -1,20 +1,18 @@
 -- Every instance has a front: the one that is computed. Assumes nothing.
-use mathlib.Core.Path.{_≡_, refl, sym, ap, _∙_, subst}
+use mathlib.Core.Path.{_≡_, refl}
 use mathlib.Core.Logic.{_⊎_, inl, inr}
-use mathlib.Core.Bool.{true, false}
 use mathlib.Core.List.{List}
-use Prim.Native.Nat.{ℕ, _^_, _≤_, _<_}
+use Prim.Native.Nat.{ℕ, _^_, _<_}
 use native.Mathlib.Omega.{arith}
 use native.Mathlib.Decide.{decLt}
 use borrow.Author.Tests.{ltb-true, ltb-false, eqb-true, eq-eqb}
 use lib.Dec.{eqb, ltb}
-use lib.IntN.{ℤ}
 use Rattle.instance.specs.Tests.{Decides}
-use Rattle.instance.specs.Meaning.{Instance, vector, Feasible}
+use Rattle.instance.specs.Meaning.{Instance, vector}
 use Rattle.judge.specs.Judging.{firstUnmet, padded}
 use Rattle.judge.proofs.UnmetLaws.{feasible-unmet, unmet-feasible}
 use Rattle.points.specs.Fronts.{Candidate, StrictOrder, IsFront}
-use Rattle.points.specs.Computed.{Candidates, frontBelow}
+use Rattle.points.specs.Computed.{Candidates}
 use Rattle.points.proofs.FrontLaws.{front-unique}
 use Rattle.points.proofs.ComputedLaws.{front-below}
 use Rattle.front.specs.Listing.{CandidateOf, Smaller, FrontOf}

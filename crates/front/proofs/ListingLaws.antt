@@ -1,19 +1,17 @@
 -- The list so far: how the front begins. Its points stand in the runs and their costs in the scratch; the next point of the search comes next.
 -- Assumes nothing.
-use mathlib.Core.Path.{_≡_, refl, sym, ap, ap₂, _∙_, subst}
-use mathlib.Core.Logic.{_⊎_, inl, inr, ⊎-elim}
+use mathlib.Core.Path.{_≡_, refl, sym, ap, _∙_, subst}
+use mathlib.Core.Logic.{_⊎_, inl, inr}
 use mathlib.Core.Bool.{true, false}
-use mathlib.Core.List.{List, [], _∷_, _++_, map, append-assoc, append-nil, List·Memᴰ, List·Memᴰ·head, List·Memᴰ·tail, List·Memᴰ·not-nil, List·Memᴰ·cases-cons}
-use Prim.Native.Nat.{ℕ, zero, suc, _+_, _-_, _*_, _^_, _≤_, _<_}
-use native.Mathlib.Nat.{mul-le-mul-right, suc-mul}
+use mathlib.Core.List.{List, [], _∷_, List·Memᴰ, List·Memᴰ·head, List·Memᴰ·tail, List·Memᴰ·not-nil, List·Memᴰ·cases-cons}
+use Prim.Native.Nat.{ℕ, zero, suc, _+_, _*_, _^_, _<_}
 use native.Mathlib.Omega.{arith}
-use native.Mathlib.Decide.{decLt}
-use lib.IntN.{ℤ, pos}
-use lib.ListN.{length, getD, set, take, drop, length-append, length-map}
+use lib.IntN.{ℤ}
+use lib.ListN.{length, getD}
 use Rattle.charging.specs.Rows.{bit}
-use Rattle.capping.specs.Caps.{vec, less, at}
+use Rattle.capping.specs.Caps.{vec, at}
 use Rattle.capping.specs.Caps.{Fresh as Unbeaten}
-use Rattle.capping.proofs.OrderLaws.{lex-same, no}
+use Rattle.capping.proofs.OrderLaws.{lex-same}
 use Rattle.seeking.specs.Least.{Fit}
 use Rattle.advancing.specs.Next.{Next}
 use Rattle.instance.specs.Meaning.{Instance, meaning, vector}
@@ -21,12 +19,9 @@ use Rattle.judge.specs.Judging.{padded}
 use Rattle.normal.specs.Normal.{Normal}
 use Rattle.points.specs.Vectors.{LeAll, Lex}
 use Rattle.points.specs.Fronts.{Candidate, Fresh, Begins, ComesNext}
-use Rattle.points.proofs.BeginLaws.{begins-none, begins-more, begins-all, begins-front, begins-short}
-use Rattle.front.specs.Listing.{CandidateOf, Smaller, FrontOf, valuesOf, modelsOf, valuesLeft, modelsLeft, setFour, CostsPut, Lists}
-use Rattle.front.specs.Computed.{frontOf}
-use Rattle.front.proofs.FrontLaws.{smaller-order, front-of}
+use Rattle.points.proofs.BeginLaws.{begins-none}
+use Rattle.front.specs.Listing.{CandidateOf, Smaller, valuesOf, modelsOf, valuesLeft, modelsLeft}
 use Rattle.front.proofs.VectorLaws.{le-vectors, le-costs, same-costs, lex-costs}
-use Rattle.front.proofs.PutLaws.{four-behind}
 
 -- the candidate of an assignment
 abbrev pub candidate : Instance → ℕ → Candidate

@@ -1,13 +1,13 @@
 -- One point more is listed; then the end, where the list is the front or its first points. Assumes nothing.
 use mathlib.Core.Path.{_≡_, refl, sym, ap, ap₂, _∙_, subst}
 use mathlib.Core.Bool.{Bool, true, false}
-use mathlib.Core.List.{List, [], _∷_, _++_, map, append-assoc, append-nil, List·Memᴰ, List·Memᴰ·head, List·Memᴰ·tail}
-use Prim.Native.Nat.{ℕ, zero, suc, _+_, _-_, _*_, _^_, _≤_, _<_}
+use mathlib.Core.List.{List, [], _∷_, _++_, append-assoc, append-nil, List·Memᴰ, List·Memᴰ·head, List·Memᴰ·tail}
+use Prim.Native.Nat.{ℕ, suc, _+_, _*_, _≤_, _<_}
 use native.Mathlib.Nat.{mul-le-mul-right, suc-mul}
 use native.Mathlib.Omega.{arith}
 use native.Mathlib.Decide.{decLt}
 use native.Mathlib.Numerals.{add-one}
-use lib.IntN.{ℤ, pos}
+use lib.IntN.{ℤ}
 use lib.ListN.{length, getD, set, take, drop, length-append, length-map, length-drop, List·getD-append}
 use lib.Seq.{drop-cons, drop-drop, take-length, set-at, getD-at}
 use Rattle.charging.specs.Rows.{bit}
@@ -18,9 +18,9 @@ use Rattle.instance.specs.Meaning.{Instance, meaning, vector}
 use Rattle.judge.specs.Judging.{padded}
 use Rattle.normal.specs.Normal.{Normal}
 use Rattle.normal.proofs.LaidLaws.{map-append}
-use Rattle.points.specs.Fronts.{Candidate, Begins}
+use Rattle.points.specs.Fronts.{Candidate}
 use Rattle.points.proofs.BeginLaws.{begins-more, begins-all, begins-front, begins-short}
-use Rattle.front.specs.Listing.{CandidateOf, Smaller, valuesOf, modelsOf, valuesLeft, modelsLeft, setFour, CostsPut, Lists}
+use Rattle.front.specs.Listing.{CandidateOf, valuesOf, modelsOf, valuesLeft, modelsLeft, setFour, CostsPut, Lists}
 use Rattle.front.specs.Computed.{frontOf}
 use Rattle.front.proofs.FrontLaws.{smaller-order, front-of}
 use Rattle.front.proofs.PutLaws.{four-behind}

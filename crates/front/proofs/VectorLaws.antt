@@ -2,15 +2,14 @@
 use mathlib.Core.Path.{_≡_, refl, sym, ap, _∙_, subst}
 use mathlib.Core.Logic.{_⊎_, inl, inr, ⊎-elim}
 use mathlib.Core.List.{List}
-use Prim.Native.Nat.{ℕ, zero, suc, _+_, _*_, _≤_, _<_}
+use Prim.Native.Nat.{ℕ, zero, suc, _+_, _≤_, _<_}
 use native.Mathlib.Omega.{arith}
 use native.Mathlib.Decide.{decLt}
 use lib.IntN.{ℤ, pos}
-use lib.ListN.{length, getD}
+use lib.ListN.{getD}
 use lib.Signed.{_≤ℤ_, ≤ℤ-refl}
 use Rattle.integers.proofs.SignedLaws.{up, dn, le-to, ≤ℤ-eq}
 use Rattle.charging.specs.Rows.{bit}
-use Rattle.charging.proofs.SumLaws.{eq-or}
 use Rattle.capping.specs.Caps.{vec, less}
 use Rattle.instance.specs.Meaning.{meaning, vector}
 use Rattle.judge.specs.Judging.{padded}

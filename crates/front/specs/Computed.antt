@@ -1,6 +1,6 @@
 -- The front of an instance computed by trying every assignment: for small instances, and so that every instance has a front.
 use mathlib.Core.List.{List}
-use Prim.Native.Nat.{ℕ, _^_}
+use Prim.Native.Nat.{_^_}
 use lib.Dec.{eqb, ltb}
 use Rattle.instance.specs.Meaning.{Instance, vector}
 use Rattle.judge.specs.Judging.{firstUnmet, padded}

@@ -1,19 +1,19 @@
 -- Lines put part after part, and how long they can be. Assumes nothing.
 use mathlib.Core.Path.{_≡_, refl, sym, ap, _∙_}
 use mathlib.Core.Bool.{Bool, true, false}
-use mathlib.Core.List.{List, [], _∷_, _++_, append-assoc}
+use mathlib.Core.List.{List, [], _∷_, _++_}
 use Prim.Native.Nat.{ℕ, zero, suc, _+_, _-_, _*_, _^_, _≤_, _<_}
 use native.Mathlib.Omega.{arith}
-use lib.IntN.{ℤ, pos}
+use lib.IntN.{ℤ}
 use mir.Syntax.{w64}
 use mir.Val.{SFits, hbits}
 use lib.Signed.{mag}
-use lib.ListN.{length, getD, length-append}
+use lib.ListN.{length, length-append}
 use Rattle.decimal.specs.Decimal.{decimal, integer}
 use Rattle.instance.specs.Lists.{tabulate}
 use Rattle.instance.proofs.ListLaws.{tabulate-same}
 use Rattle.writing.proofs.LengthLaws.{decimal-most, integer-most}
-use Rattle.lines.specs.Lines.{endText, frontLine, valuesText, pointLine, refusedLine, frontWord, objectivesWord, variablesWord, pointWord, valuesWord, modelWord, refusedWord, statementWord}
+use Rattle.lines.specs.Lines.{endText, frontLine, valuesText, pointLine, refusedLine, objectivesWord, variablesWord, valuesWord, modelWord, statementWord}
 
 -- ---- valuesText
 

@@ -1,17 +1,16 @@
 -- The runs that hold the half rows and the objectives are normal tables of the instance. Assumes nothing.
-use mathlib.Core.Path.{_≡_, refl, sym, ap, ap₂, _∙_, subst}
+use mathlib.Core.Path.{_≡_, sym, ap, ap₂, subst}
 use mathlib.Core.List.{List, map, List·Memᴰ, Memᴰ·append-right}
-use Prim.Native.Nat.{ℕ, zero, suc, _+_, _-_, _*_, _/_, _%_, _^_, _≤_, _<_}
+use Prim.Native.Nat.{ℕ, zero, suc, _+_, _*_, _/_, _%_, _^_, _≤_, _<_}
 use native.Mathlib.Nat.{mul-le-mul-right, suc-mul, mod-lt, div-add-mod'}
 use native.Mathlib.Omega.{arith}
 use native.Mathlib.Decide.{decLt}
 use lib.IntN.{ℤ, natAbs}
 use lib.ListN.{length, getD, take, length-append, List·getD-eq-default}
 use lib.Seq.{getD-take, length-take-le}
-use Rattle.charging.specs.Rows.{bit, Table, Meets, Costs, cost}
-use Rattle.instance.specs.Limits.{maxTerms, maxRows, maxBound}
+use Rattle.charging.specs.Rows.{bit, Table, Meets, Costs}
+use Rattle.instance.specs.Limits.{maxTerms, maxRows}
 use Rattle.instance.specs.Terms.{Term, TermOk}
-use Rattle.instance.specs.Rows.{Entry}
 use Rattle.instance.specs.Lists.{tabulate}
 use Rattle.instance.specs.Layout.{allTerms, Within}
 use Rattle.instance.specs.Tables.{objectivesIn, rowsIn, IsInstance}
@@ -20,14 +19,13 @@ use Rattle.instance.proofs.NumberLaws.{allTerms-append}
 use Rattle.instance.proofs.SumLaws.{highest-member}
 use Rattle.instance.proofs.InstanceLaws.{variables-le}
 use Rattle.instance.proofs.MeaningLaws.{instance-within}
-use Rattle.normal.specs.declared.Half.{Half}
 use Rattle.normal.specs.Rows.{HalfRow, allHalves, startsFrom, Laid}
 use Rattle.normal.specs.Grown.{halfRowsAll}
 use Rattle.normal.specs.Costs.{Priced, PricedAll}
 use Rattle.normal.specs.Normal.{RowsHold, Normal}
 use Rattle.normal.proofs.SpanLaws.{variablesOf, offsOf, weightsOf}
 use Rattle.normal.proofs.MeetLaws.{Kinds, meets-all, all-meets, hold-met, met-hold}
-use Rattle.normal.proofs.TableLaws.{HalfOk, rows-ok, rows-table}
+use Rattle.normal.proofs.TableLaws.{rows-ok, rows-table}
 use Rattle.normal.proofs.LayLaws.{all-few}
 use Rattle.normal.proofs.PricedLaws.{priced-frame}
 

@@ -8,12 +8,11 @@ use native.Mathlib.Omega.{arith}
 use native.Mathlib.Decide.{decLt}
 use lib.Dec.{ltb}
 use lib.IntN.{ℤ, pos, natAbs, _+ℤ_}
-use lib.ListN.{length, getD}
-use lib.Signed.{_≤ℤ_}
+use lib.ListN.{getD}
 use Rattle.charging.specs.Rows.{hit, span, cost, bit}
-use Rattle.instance.specs.Limits.{maxCoef, maxTerms, maxBound}
-use Rattle.instance.specs.Tables.{termAt, firstAt, countAt, objectivesIn, entriesIn, IsInstance}
-use Rattle.instance.specs.Meaning.{meaning, termsAt, entryAt}
+use Rattle.instance.specs.Limits.{maxTerms, maxBound}
+use Rattle.instance.specs.Tables.{termAt, objectivesIn, IsInstance}
+use Rattle.instance.specs.Meaning.{meaning}
 use Rattle.instance.specs.Structs.{EntryIs}
 use Rattle.instance.specs.Terms.{Term, sum}
 use Rattle.instance.specs.declared.entries.Entry.{Entry as EntryNumbers}

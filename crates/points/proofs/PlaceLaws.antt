@@ -1,14 +1,13 @@
 -- Vectors by place: at most in each place, and the first place where two differ. For the lister.
-use mathlib.Core.Path.{_≡_, refl, sym, ap}
-use mathlib.Core.Bool.{true}
+use mathlib.Core.Path.{_≡_, refl}
 use mathlib.Core.List.{List, [], _∷_}
-use Prim.Native.Nat.{ℕ, zero, suc, _+_, _≤_, _<_}
+use Prim.Native.Nat.{ℕ, zero, suc, _+_, _<_}
 use native.Mathlib.Omega.{arith}
 use lib.IntN.{ℤ, pos}
 use lib.ListN.{length, getD}
-use lib.Signed.{ltZ, leZ, _≤ℤ_, ≤ℤ-refl}
+use lib.Signed.{leZ, _≤ℤ_, ≤ℤ-refl}
 use Rattle.integers.proofs.SignedLaws.{up, dn, le-to, le-from}
-use Rattle.points.specs.Vectors.{leAll, LeAll, lex, Lex}
+use Rattle.points.specs.Vectors.{leAll, LeAll, Lex}
 use Rattle.points.proofs.OrderLaws.{clash, lex-nil, le-head, le-tail, le-yes, and-both, lt-of, Compared, compare}
 
 -- ---- leAll

@@ -1,22 +1,13 @@
 -- The two ends.
-use mathlib.Core.Path.{_≡_, refl, sym, ap, _∙_, subst}
-use mathlib.Core.Bool.{Bool, true, false}
-use mathlib.Core.List.{List, [], _∷_, _++_}
-use Prim.Native.Nat.{ℕ, suc, _+_, _-_, _*_, _≤_, _<_}
+use mathlib.Core.Path.{sym, ap}
+use mathlib.Core.Bool.{Bool}
 use native.Mathlib.Omega.{arith}
-use lib.IntN.{ℤ, pos}
-use lib.ListN.{length, getD}
-use Rattle.decimal.specs.Decimal.{decimal, integer}
-use Rattle.decimal.specs.Bytes.{overwrite}
-use Rattle.writing.proofs.RestLaws.{Put, put-as, put-none, Rest, rest-all, rest-as, rest-none, rest-room-all, rest-put-all, rest-room, rest-put}
+use lib.ListN.{length}
+use Rattle.writing.proofs.RestLaws.{put-as}
 use Rattle.lines.specs.Lines.{endText}
 use borrow.Author.Needs.{needs}
 use Rattle.lines.proofs.put_end.Statement.{statement}
 use Rattle.lines.proofs.put_end.Tie as tie
-use Rattle.lines.proofs.put_end.Reads as reads
-use Rattle.lines.proofs.put_end.Lts as lts
-use Rattle.decimal.proofs.put_byte.Reads as put-byte-reads
-use Rattle.decimal.proofs.put_bytes.Reads as put-bytes-reads
 
 slice-aggregate-put-bytes : tie.Need-slice-aggregate-put-bytes
 slice-aggregate-put-bytes c = search needs

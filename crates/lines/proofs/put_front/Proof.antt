@@ -1,23 +1,13 @@
 -- The parts of the line are put one after the other; what is left of it shrinks by each.
-use mathlib.Core.Path.{_≡_, refl, sym, ap, _∙_, subst}
-use mathlib.Core.Bool.{Bool, true, false}
-use mathlib.Core.List.{List, [], _∷_, _++_}
-use Prim.Native.Nat.{ℕ, suc, _+_, _-_, _*_, _≤_, _<_}
+use mathlib.Core.List.{_++_}
 use native.Mathlib.Omega.{arith}
-use lib.IntN.{ℤ, pos}
-use lib.ListN.{length, getD}
-use Rattle.decimal.specs.Decimal.{decimal, integer}
-use Rattle.decimal.specs.Bytes.{overwrite}
-use Rattle.writing.proofs.RestLaws.{Put, put-as, put-none, Rest, rest-all, rest-as, rest-none, rest-room-all, rest-put-all, rest-room, rest-put}
+use Rattle.decimal.specs.Decimal.{decimal}
+use Rattle.writing.proofs.RestLaws.{rest-all, rest-room-all, rest-put-all, rest-room, rest-put}
 use Rattle.lines.specs.Lines.{frontWord, objectivesWord, variablesWord, endText, frontLine}
 use Rattle.lines.proofs.LineLaws.{front-most}
 use borrow.Author.Needs.{needs}
 use Rattle.lines.proofs.put_front.Statement.{statement}
 use Rattle.lines.proofs.put_front.Tie as tie
-use Rattle.lines.proofs.put_front.Reads as reads
-use Rattle.lines.proofs.put_front.Lts as lts
-use Rattle.lines.proofs.put_end.Reads as put-end-reads
-use Rattle.lines.proofs.put_word.Reads as put-word-reads
 
 slice-aggregate-put-word : tie.Need-slice-aggregate-put-word
 slice-aggregate-put-word c = search needs

@@ -1,14 +1,11 @@
 -- The parts of the line are put one after the other; what is left of it shrinks by each.
-use mathlib.Core.Path.{_≡_, refl, sym, ap, _∙_, subst}
-use mathlib.Core.Bool.{Bool, true, false}
-use mathlib.Core.List.{List, [], _∷_, _++_}
-use Prim.Native.Nat.{ℕ, suc, _+_, _-_, _*_, _≤_, _<_}
+use mathlib.Core.List.{[], _∷_, _++_}
+use Prim.Native.Nat.{ℕ}
 use native.Mathlib.Omega.{arith}
-use lib.IntN.{ℤ, pos}
-use lib.ListN.{length, getD}
-use Rattle.decimal.specs.Decimal.{decimal, integer}
-use Rattle.decimal.specs.Bytes.{overwrite}
-use Rattle.writing.proofs.RestLaws.{Put, put-as, put-none, Rest, rest-all, rest-as, rest-none, rest-room-all, rest-put-all, rest-room, rest-put}
+use lib.IntN.{pos}
+use lib.ListN.{getD}
+use Rattle.decimal.specs.Decimal.{decimal}
+use Rattle.writing.proofs.RestLaws.{rest-all, rest-room-all, rest-put-all, rest-room, rest-put}
 use Rattle.instance.specs.Lists.{tabulate}
 use Rattle.instance.proofs.ListLaws.{tabulate-length}
 use Rattle.lines.specs.Lines.{pointWord, valuesWord, modelWord, valuesText, pointLine}
@@ -16,12 +13,6 @@ use Rattle.lines.proofs.LineLaws.{point-most}
 use borrow.Author.Needs.{needs}
 use Rattle.lines.proofs.put_point.Statement.{statement}
 use Rattle.lines.proofs.put_point.Tie as tie
-use Rattle.lines.proofs.put_point.Reads as reads
-use Rattle.lines.proofs.put_point.Lts as lts
-use Rattle.decimal.proofs.put_byte.Reads as put-byte-reads
-use Rattle.decimal.proofs.put_bytes.Reads as put-bytes-reads
-use Rattle.lines.proofs.put_values.Reads as put-values-reads
-use Rattle.lines.proofs.put_word.Reads as put-word-reads
 
 slice-aggregate-put-word : tie.Need-slice-aggregate-put-word
 slice-aggregate-put-word c = search needs

@@ -1,22 +1,15 @@
 -- A space, then the number.
-use mathlib.Core.Path.{_≡_, refl, sym, ap, _∙_, subst}
-use mathlib.Core.Bool.{Bool, true, false}
-use mathlib.Core.List.{List, [], _∷_, _++_}
-use Prim.Native.Nat.{ℕ, suc, _+_, _-_, _*_, _≤_, _<_}
+use mathlib.Core.List.{[], _∷_}
+use Prim.Native.Nat.{_+_, _≤_}
 use native.Mathlib.Omega.{arith}
-use lib.IntN.{ℤ, pos}
-use lib.ListN.{length, getD}
-use Rattle.decimal.specs.Decimal.{decimal, integer}
-use Rattle.decimal.specs.Bytes.{overwrite}
-use Rattle.writing.proofs.RestLaws.{Put, put-as, put-none, Rest, rest-all, rest-as, rest-none, rest-room-all, rest-put-all, rest-room, rest-put}
+use lib.IntN.{ℤ}
+use lib.ListN.{length}
+use Rattle.decimal.specs.Decimal.{integer}
+use Rattle.writing.proofs.RestLaws.{Put, rest-all, rest-room-all, rest-put-all, rest-put}
 use Rattle.integers.proofs.SignedLaws.{plain, coded}
 use borrow.Author.Needs.{needs}
 use Rattle.lines.proofs.put_value.Statement.{statement}
 use Rattle.lines.proofs.put_value.Tie as tie
-use Rattle.lines.proofs.put_value.Reads as reads
-use Rattle.lines.proofs.put_value.Lts as lts
-use Rattle.decimal.proofs.put_byte.Reads as put-byte-reads
-use Rattle.decimal.proofs.put_integer.Reads as put-integer-reads
 
 put-byte-requires : tie.Need-put-byte-requires
 put-byte-requires c κs = search needs

@@ -1,25 +1,18 @@
 -- Each turn puts one value. Invariant: to write the values that are left now gives what was asked. Measure: the values left.
 use borrow.Author.Needs.{needs}
-use mathlib.Core.Path.{_≡_, refl, sym, ap, _∙_, subst}
-use mathlib.Core.Bool.{Bool, true, false}
-use mathlib.Core.List.{List, [], _∷_, _++_}
-use Prim.Native.Nat.{ℕ, suc, _+_, _-_, _*_, _≤_, _<_}
+use mathlib.Core.List.{_∷_}
+use Prim.Native.Nat.{_+_, _-_, _≤_}
 use native.Mathlib.Omega.{arith}
 use lib.IntN.{ℤ, pos}
 use lib.ListN.{length, getD}
-use Rattle.decimal.specs.Decimal.{decimal, integer}
-use Rattle.decimal.specs.Bytes.{overwrite}
-use Rattle.writing.proofs.RestLaws.{Put, put-as, put-none, Rest, rest-all, rest-as, rest-none, rest-room-all, rest-put-all, rest-room, rest-put}
+use Rattle.decimal.specs.Decimal.{integer}
+use Rattle.writing.proofs.RestLaws.{Put, Rest, rest-all, rest-as, rest-none, rest-room, rest-put}
 use Rattle.instance.specs.Lists.{tabulate}
-use Rattle.instance.proofs.ListLaws.{tabulate-same}
 use Rattle.integers.proofs.SignedLaws.{plain, coded}
 use Rattle.lines.specs.Lines.{valuesText}
-use Rattle.lines.proofs.LineLaws.{values-none, values-more, values-next, values-start, values-end, value-fits}
+use Rattle.lines.proofs.LineLaws.{values-next, values-start, values-end, value-fits}
 use Rattle.lines.proofs.put_values.Statement.{statement}
 use Rattle.lines.proofs.put_values.Tie as tie
-use Rattle.lines.proofs.put_values.Reads as reads
-use Rattle.lines.proofs.put_values.Lts as lts
-use Rattle.lines.proofs.put_value.Reads as put-value-reads
 
 abbrev Inv-loop : tie.InvT-loop
 Inv-loop out₀ at values first count place₀ k₀ out place k = (k ≤ count) × Rest out₀ at (valuesText (tabulate (λ j. getD values j (pos 0)) first count)) out place (valuesText (tabulate (λ j. getD values j (pos 0)) (first + k) (count - k)))

@@ -1,18 +1,11 @@
 -- The line fits its 256 bytes.
-use mathlib.Core.Path.{_≡_, refl, sym, ap, _∙_}
-use Prim.Native.Nat.{ℕ, suc, _+_, _-_, _*_, _≤_, _<_}
+use mathlib.Core.Path.{sym}
 use native.Mathlib.Omega.{arith}
-use lib.IntN.{ℤ, pos}
-use lib.ListN.{length, getD, take}
 use lib.Seq.{length-take-le}
 use Rattle.lines.proofs.LineLaws.{front-most}
 use borrow.Author.Needs.{needs}
 use Rattle.listing.proofs.print_front.Statement.{statement}
 use Rattle.listing.proofs.print_front.Tie as tie
-use Rattle.listing.proofs.print_front.Reads as reads
-use Rattle.listing.proofs.print_front.Lts as lts
-use Rattle.io.proofs.write_all.Reads as write-all-reads
-use Rattle.lines.proofs.put_front.Reads as put-front-reads
 
 slice-aggregate-put-front : tie.Need-slice-aggregate-put-front
 slice-aggregate-put-front c = search needs

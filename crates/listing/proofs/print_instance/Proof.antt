@@ -1,20 +1,9 @@
 -- An instance has at most four objectives.
-use mathlib.Core.Path.{_≡_, refl, sym, ap, _∙_}
-use Prim.Native.Nat.{ℕ, suc, _+_, _-_, _*_, _≤_, _<_}
 use native.Mathlib.Omega.{arith}
-use lib.IntN.{ℤ, pos}
-use lib.ListN.{length, getD, take}
-use lib.Seq.{length-take-le}
 use Rattle.front.proofs.AnswerLaws.{checked-sizes}
 use borrow.Author.Needs.{needs}
 use Rattle.listing.proofs.print_instance.Statement.{statement}
 use Rattle.listing.proofs.print_instance.Tie as tie
-use Rattle.listing.proofs.print_instance.Reads as reads
-use Rattle.listing.proofs.print_instance.Lts as lts
-use Rattle.front.proofs.list_front.Reads as list-front-reads
-use Rattle.instance.proofs.tables.Instance.of.Reads as of-reads
-use Rattle.listing.proofs.print_listing.Reads as print-listing-reads
-use Rattle.listing.proofs.print_refused.Reads as print-refused-reads
 
 of-requires : tie.Need-of-requires
 of-requires c κs = search needs

@@ -1,9 +1,9 @@
 -- The line fits its 256 bytes.
-use mathlib.Core.Path.{_≡_, refl, sym, ap, _∙_}
-use Prim.Native.Nat.{ℕ, suc, _+_, _-_, _*_, _≤_, _<_}
+use mathlib.Core.Path.{sym}
+use Prim.Native.Nat.{ℕ, _+_, _*_}
 use native.Mathlib.Omega.{arith}
-use lib.IntN.{ℤ, pos}
-use lib.ListN.{length, getD, take}
+use lib.IntN.{pos}
+use lib.ListN.{getD}
 use lib.Seq.{length-take-le}
 use Rattle.instance.specs.Lists.{tabulate}
 use Rattle.instance.proofs.ListLaws.{tabulate-length}
@@ -11,10 +11,6 @@ use Rattle.lines.proofs.LineLaws.{point-most}
 use borrow.Author.Needs.{needs}
 use Rattle.listing.proofs.print_point.Statement.{statement}
 use Rattle.listing.proofs.print_point.Tie as tie
-use Rattle.listing.proofs.print_point.Reads as reads
-use Rattle.listing.proofs.print_point.Lts as lts
-use Rattle.io.proofs.write_all.Reads as write-all-reads
-use Rattle.lines.proofs.put_point.Reads as put-point-reads
 
 slice-aggregate-put-point : tie.Need-slice-aggregate-put-point
 slice-aggregate-put-point c = search needs

@@ -1,16 +1,9 @@
 -- Invariant: the points passed are at most all. Measure: the points left.
 use borrow.Author.Needs.{needs}
-use mathlib.Core.Path.{_≡_, refl, sym, ap, _∙_}
-use Prim.Native.Nat.{ℕ, suc, _+_, _-_, _*_, _≤_, _<_}
+use Prim.Native.Nat.{_-_, _≤_}
 use native.Mathlib.Omega.{arith}
-use lib.IntN.{ℤ, pos}
-use lib.ListN.{length, getD, take}
-use lib.Seq.{length-take-le}
 use Rattle.listing.proofs.print_points.Statement.{statement}
 use Rattle.listing.proofs.print_points.Tie as tie
-use Rattle.listing.proofs.print_points.Reads as reads
-use Rattle.listing.proofs.print_points.Lts as lts
-use Rattle.listing.proofs.print_point.Reads as print-point-reads
 
 abbrev Inv-loop : tie.InvT-loop
 Inv-loop values models objectives points k₀ k = k ≤ points

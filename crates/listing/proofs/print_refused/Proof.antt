@@ -1,18 +1,11 @@
 -- The line fits its 256 bytes.
-use mathlib.Core.Path.{_≡_, refl, sym, ap, _∙_}
-use Prim.Native.Nat.{ℕ, suc, _+_, _-_, _*_, _≤_, _<_}
+use mathlib.Core.Path.{sym}
 use native.Mathlib.Omega.{arith}
-use lib.IntN.{ℤ, pos}
-use lib.ListN.{length, getD, take}
 use lib.Seq.{length-take-le}
 use Rattle.lines.proofs.LineLaws.{refused-most}
 use borrow.Author.Needs.{needs}
 use Rattle.listing.proofs.print_refused.Statement.{statement}
 use Rattle.listing.proofs.print_refused.Tie as tie
-use Rattle.listing.proofs.print_refused.Reads as reads
-use Rattle.listing.proofs.print_refused.Lts as lts
-use Rattle.io.proofs.write_all.Reads as write-all-reads
-use Rattle.lines.proofs.put_refused.Reads as put-refused-reads
 
 slice-aggregate-put-refused : tie.Need-slice-aggregate-put-refused
 slice-aggregate-put-refused c = search needs

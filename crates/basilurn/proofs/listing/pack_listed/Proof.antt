@@ -6,9 +6,6 @@ use Rattle.basilurn.specs.Words.{packed}
 use borrow.Author.Needs.{needs}
 use Rattle.basilurn.proofs.listing.pack_listed.Statement.{statement}
 use Rattle.basilurn.proofs.listing.pack_listed.Tie as tie
-use Rattle.basilurn.proofs.listing.pack_listed.Reads as reads
-use Rattle.basilurn.proofs.listing.pack_listed.Lts as lts
-use Rattle.basilurn.proofs.packing.pack.Reads as pack-reads
 
 enum-known-r : tie.Need-enum-known-r
 enum-known-r c = search needs

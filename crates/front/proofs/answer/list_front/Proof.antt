@@ -1,15 +1,9 @@
 -- Each case of the answer is the document's, by what the check of tables and the list answered.
-use mathlib.Core.Path.{_≡_, refl, sym, ap, _∙_}
-use mathlib.Core.Bool.{true, false}
+use mathlib.Core.Path.{refl}
 use Rattle.front.proofs.AnswerLaws.{checked-sizes, checked-refused, room-fits, listed-all, listed-first}
 use borrow.Author.Needs.{needs}
 use Rattle.front.proofs.answer.list_front.Statement.{statement}
 use Rattle.front.proofs.answer.list_front.Tie as tie
-use Rattle.front.proofs.answer.list_front.Reads as reads
-use Rattle.front.proofs.answer.list_front.Lts as lts
-use Rattle.front.proofs.answer.list_instance.Reads as list-instance-reads
-use Rattle.front.proofs.answer.room_of.Reads as room-of-reads
-use Rattle.instance.proofs.tables.Instance.of.Reads as of-reads
 
 of-requires : tie.Need-of-requires
 of-requires c κs = search needs

@@ -1,21 +1,14 @@
 -- The runs that hold the half rows and the objectives are normal tables of the instance.
-use mathlib.Core.Path.{_≡_, refl, sym, ap, _∙_, subst}
-use Prim.Native.Nat.{ℕ, suc, _+_, _*_, _-_, _^_, _≤_, _<_}
-use native.Mathlib.Nat.{mul-le-mul-right, suc-mul}
+use mathlib.Core.Path.{sym}
+use Prim.Native.Nat.{_*_}
+use native.Mathlib.Nat.{mul-le-mul-right}
 use native.Mathlib.Omega.{arith}
-use lib.ListN.{length, getD, take}
 use lib.Seq.{length-take-le}
 use Rattle.instance.proofs.InstanceLaws.{variables-le}
 use Rattle.normal.proofs.NormalLaws.{few-halves, few-terms, taken-small, normal-is}
 use borrow.Author.Needs.{needs}
 use Rattle.front.proofs.answer.list_instance.Statement.{statement}
 use Rattle.front.proofs.answer.list_instance.Tie as tie
-use Rattle.front.proofs.answer.list_instance.Reads as reads
-use Rattle.front.proofs.answer.list_instance.Lts as lts
-use Rattle.front.proofs.listing.list_points.Reads as list-points-reads
-use Rattle.front.proofs.order.by_share.Reads as by-share-reads
-use Rattle.normal.proofs.costs.lay_objectives.Reads as lay-objectives-reads
-use Rattle.normal.proofs.fill.lay_rows.Reads as lay-rows-reads
 
 slice-aggregate-lay-rows : tie.Need-slice-aggregate-lay-rows
 slice-aggregate-lay-rows c = search needs

@@ -1,21 +1,15 @@
 -- Invariant (Listing): m points are listed, and they are how the front begins. Measure: the room left.
 use borrow.Author.Needs.{needs}
-use mathlib.Core.Path.{_≡_, refl, sym, ap, _∙_, subst}
-use mathlib.Core.Bool.{Bool, true, false}
-use Prim.Native.Nat.{ℕ, suc, _+_, _*_, _-_, _^_, _≤_, _<_}
+use mathlib.Core.Path.{_≡_, refl, _∙_}
+use Prim.Native.Nat.{_-_, _≤_}
 use native.Mathlib.Nat.{mul-le-mul-right, suc-mul}
 use native.Mathlib.Omega.{arith}
 use borrow.Author.Tests.{not-true, not-false}
-use lib.ListN.{length, getD, length-set}
+use lib.ListN.{length}
 use Rattle.front.proofs.ListingLaws.{Listing, listing-none, next-bits}
 use Rattle.front.proofs.StepLaws.{values-same, models-same, listing-more, lists-all, lists-part, next-is, next-not}
 use Rattle.front.proofs.listing.list_points.Statement.{statement}
 use Rattle.front.proofs.listing.list_points.Tie as tie
-use Rattle.front.proofs.listing.list_points.Reads as reads
-use Rattle.front.proofs.listing.list_points.Lts as lts
-use Rattle.advancing.proofs.next_point.Reads as next-point-reads
-use Rattle.front.proofs.put.put_costs.Reads as put-costs-reads
-use Rattle.front.proofs.put.put_point.Reads as put-point-reads
 
 abbrev Inv-loop : tie.InvT-loop
 Inv-loop terms rows n starts variables offs weights needs gaps dears k order room values₀ models₀ listed₀ left₀ lows₀ caps₀ costs₀ m₀ values models listed left lows caps costs m = (m ≤ room) × Listing terms rows n k gaps dears values₀ models₀ m values models listed × (length listed ≡ 4096) × (length left ≡ 64) × (length lows ≡ 4) × (length caps ≡ 4) × (length costs ≡ 4)

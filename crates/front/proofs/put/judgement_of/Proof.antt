@@ -3,9 +3,6 @@ use Rattle.front.proofs.PutLaws.{judged-four, judged-instance, judged-b
 use borrow.Author.Needs.{needs}
 use Rattle.front.proofs.put.judgement_of.Statement.{statement}
 use Rattle.front.proofs.put.judgement_of.Tie as tie
-use Rattle.front.proofs.put.judgement_of.Reads as reads
-use Rattle.front.proofs.put.judgement_of.Lts as lts
-use Rattle.judge.proofs.judge_assignment.Reads as judge-assignment-reads
 
 judge-assignment-requires : tie.Need-judge-assignment-requires
 judge-assignment-requires c κs = search needs

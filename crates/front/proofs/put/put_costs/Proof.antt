@@ -1,15 +1,11 @@
 -- Invariant (CostsPut): the first numbers are stored, and nothing before their place changes. Measure: the numbers left.
 use borrow.Author.Needs.{needs}
-use mathlib.Core.Path.{_≡_}
-use Prim.Native.Nat.{ℕ, _+_, _*_, _-_, _≤_, _<_}
+use Prim.Native.Nat.{_-_, _≤_}
 use native.Mathlib.Omega.{arith}
-use lib.ListN.{length, getD}
 use Rattle.front.specs.Listing.{CostsPut}
 use Rattle.front.proofs.PutLaws.{costs-none, costs-more, costs-as}
 use Rattle.front.proofs.put.put_costs.Statement.{statement}
 use Rattle.front.proofs.put.put_costs.Tie as tie
-use Rattle.front.proofs.put.put_costs.Reads as reads
-use Rattle.front.proofs.put.put_costs.Lts as lts
 
 abbrev Inv-loop : tie.InvT-loop
 Inv-loop k costs at listed₀ i₀ listed i = (i ≤ k) × CostsPut i costs at listed₀ listed

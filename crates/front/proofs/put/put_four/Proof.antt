@@ -1,12 +1,9 @@
 -- Four stores.
-use Prim.Native.Nat.{ℕ, _+_, _*_, _-_, _≤_, _<_}
 use native.Mathlib.Omega.{arith}
-use lib.ListN.{length, length-set}
+use lib.ListN.{length-set}
 use borrow.Author.Needs.{needs}
 use Rattle.front.proofs.put.put_four.Statement.{statement}
 use Rattle.front.proofs.put.put_four.Tie as tie
-use Rattle.front.proofs.put.put_four.Reads as reads
-use Rattle.front.proofs.put.put_four.Lts as lts
 
 mul-first : tie.Need-mul-first
 mul-first c = search needs

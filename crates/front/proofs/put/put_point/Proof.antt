@@ -1,5 +1,5 @@
 -- The values are those of the judgement.
-use mathlib.Core.Path.{_≡_, refl, ap, _∙_}
+use mathlib.Core.Path.{refl, ap, _∙_}
 use mathlib.Core.List.{List}
 use Prim.Native.Nat.{_*_}
 use lib.IntN.{ℤ}
@@ -7,10 +7,6 @@ use Rattle.front.specs.Listing.{setFour}
 use borrow.Author.Needs.{needs}
 use Rattle.front.proofs.put.put_point.Statement.{statement}
 use Rattle.front.proofs.put.put_point.Tie as tie
-use Rattle.front.proofs.put.put_point.Reads as reads
-use Rattle.front.proofs.put.put_point.Lts as lts
-use Rattle.front.proofs.put.judgement_of.Reads as judgement-of-reads
-use Rattle.front.proofs.put.put_four.Reads as put-four-reads
 
 judgement-of-requires : tie.Need-judgement-of-requires
 judgement-of-requires c κs = search needs

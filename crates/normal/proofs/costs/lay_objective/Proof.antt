@@ -1,6 +1,6 @@
 -- The sides are spread from the objective's terms, and the gaps and dear sides settled from them.
-use mathlib.Core.Path.{_≡_, refl, sym, ap, _∙_, subst}
-use Prim.Native.Nat.{ℕ, _+_, _*_, _-_, _≤_, _<_}
+use mathlib.Core.Path.{sym, subst}
+use Prim.Native.Nat.{ℕ, _≤_}
 use native.Mathlib.Omega.{arith}
 use lib.IntN.{natAbs}
 use Rattle.instance.specs.Tables.{termAt}
@@ -10,11 +10,6 @@ use Rattle.normal.proofs.PricedLaws.{objective-names, priced-one}
 use borrow.Author.Needs.{needs}
 use Rattle.normal.proofs.costs.lay_objective.Statement.{statement}
 use Rattle.normal.proofs.costs.lay_objective.Tie as tie
-use Rattle.normal.proofs.costs.lay_objective.Reads as reads
-use Rattle.normal.proofs.costs.lay_objective.Lts as lts
-use Rattle.instance.proofs.entries.Entry.at.Reads as at-reads
-use Rattle.normal.proofs.costs.settle.Reads as settle-reads
-use Rattle.normal.proofs.costs.spread.Reads as spread-reads
 
 at-requires : tie.Need-at-requires
 at-requires c κs = entry-fine (c .before .before .pre .0) (c .before .before .args .i) (omega (arith, c .before .before .pre .1 .0))

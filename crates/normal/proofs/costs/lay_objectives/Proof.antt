@@ -1,17 +1,12 @@
 -- Invariant (PricedAll): the first i objectives are laid out. Measure: the objectives left.
 use borrow.Author.Needs.{needs}
-use mathlib.Core.Path.{_≡_, refl, sym, ap, _∙_, subst}
-use Prim.Native.Nat.{ℕ, suc, _+_, _*_, _-_, _≤_, _<_}
+use Prim.Native.Nat.{_-_, _≤_}
 use native.Mathlib.Nat.{mul-le-mul-right, suc-mul}
 use native.Mathlib.Omega.{arith}
-use lib.ListN.{length}
 use Rattle.normal.specs.Costs.{PricedAll}
 use Rattle.normal.proofs.PricedLaws.{priced-none, priced-more, priced-as}
 use Rattle.normal.proofs.costs.lay_objectives.Statement.{statement}
 use Rattle.normal.proofs.costs.lay_objectives.Tie as tie
-use Rattle.normal.proofs.costs.lay_objectives.Reads as reads
-use Rattle.normal.proofs.costs.lay_objectives.Lts as lts
-use Rattle.normal.proofs.costs.lay_objective.Reads as lay-objective-reads
 
 abbrev Inv-loop : tie.InvT-loop
 Inv-loop terms rows count n gaps₀ dears₀ i₀ gaps dears i = (i ≤ count) × PricedAll terms rows n i gaps₀ gaps dears₀ dears
