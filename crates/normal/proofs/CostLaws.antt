@@ -20,7 +20,7 @@ use Rattle.instance.specs.Lists.{tabulate}
 use Rattle.normal.specs.declared.Half.{Half}
 use Rattle.normal.specs.Halves.{halfOf, bitOf, gives, givesAll}
 use Rattle.normal.specs.Rows.{halvesAt}
-use Rattle.normal.specs.Costs.{sidesSum, Spread}
+use Rattle.normal.specs.Costs.{sidesOf, sidesSum, Spread}
 use Rattle.normal.proofs.LaidLaws.{halves-snoc}
 use Rattle.normal.proofs.TableLaws.{HalfOk}
 
@@ -57,7 +57,7 @@ gives-snoc xs h a = omega (arith, gives-append xs (h ∷ []) a)
 -- ---- sidesSum
 
 -- a sum that differs at one place
-span-one : (f g : ℕ → ℕ) (n u m : ℕ) → ((k : ℕ) → k < n → (k ≡ u → ⊥) → g k ≡ f k) → u < n → g u ≡ f u + m → span g 0 n ≡ span f 0 n + m
+pub span-one : (f g : ℕ → ℕ) (n u m : ℕ) → ((k : ℕ) → k < n → (k ≡ u → ⊥) → g k ≡ f k) → u < n → g u ≡ f u + m → span g 0 n ≡ span f 0 n + m
 unfolding span
 span-one f g zero u m e h d = absurd (omega arith)
 span-one f g (suc n) u m e h d = by (decLt u n) (λ l. span-one f g n u m (λ k i z. e k (omega arith) z) l d)
@@ -79,10 +79,13 @@ span-one f g (suc n) u m e h d = by (decLt u n) (λ l. span-one f g n u m (λ k 
         here : n ≡ u
         here = omega arith
 
-pub sides-zero : (n : ℕ) (sides : List ℕ) (a : ℕ) → ((j : ℕ) → getD sides j 0 ≡ 0) → sidesSum n sides a ≡ 0
+pub sides-none : (n : ℕ) (sides : List ℕ) (x : ℕ → ℕ) → ((j : ℕ) → getD sides j 0 ≡ 0) → sidesOf n sides x ≡ 0
 unfolding span
-sides-zero zero sides a f = refl
-sides-zero (suc n) sides a f = omega (arith, sides-zero n sides a f, f ((0 + n) * 2 + bit a (0 + n)))
+sides-none zero sides x f = refl
+sides-none (suc n) sides x f = omega (arith, sides-none n sides x f, f ((0 + n) * 2 + x (0 + n)))
+
+sides-zero : (n : ℕ) (sides : List ℕ) (a : ℕ) → ((j : ℕ) → getD sides j 0 ≡ 0) → sidesSum n sides a ≡ 0
+sides-zero n sides a f = sides-none n sides (bit a) f
 
 -- one term more: its weight is added at the side that its variable is not off
 module _ (n : ℕ) (sides : List ℕ) (h : Half) (o : HalfOk n h) (room : n * 2 ≤ length sides) where

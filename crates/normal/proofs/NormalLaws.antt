@@ -9,7 +9,7 @@ use lib.IntN.{ℤ, natAbs}
 use lib.ListN.{length, getD, take, length-append, List·getD-eq-default}
 use lib.Seq.{getD-take, length-take-le}
 use Rattle.charging.specs.Rows.{bit, Table, Meets, Costs}
-use Rattle.instance.specs.Limits.{maxTerms, maxRows}
+use Rattle.instance.specs.Limits.{maxCoef, maxTerms, maxRows}
 use Rattle.instance.specs.Terms.{Term, TermOk}
 use Rattle.instance.specs.Lists.{tabulate}
 use Rattle.instance.specs.Layout.{allTerms, Within}
@@ -25,7 +25,7 @@ use Rattle.normal.specs.Costs.{Priced, PricedAll}
 use Rattle.normal.specs.Normal.{RowsHold, Normal}
 use Rattle.normal.proofs.SpanLaws.{variablesOf, offsOf, weightsOf}
 use Rattle.normal.proofs.MeetLaws.{Kinds, meets-all, all-meets, hold-met, met-hold}
-use Rattle.normal.proofs.TableLaws.{rows-ok, rows-table}
+use Rattle.normal.proofs.TableLaws.{rows-ok, rows-table, weights-coef}
 use Rattle.normal.proofs.LayLaws.{all-few}
 use Rattle.normal.proofs.PricedLaws.{priced-frame}
 
@@ -53,6 +53,10 @@ module _ {ts rs : List ℤ} (is : IsInstance ts rs) where
     pub laid-table : Table ((meaning ts rs) .variables) (take (halves + 1) starts) (take used vs) (take used os) (take used ws) (take halves needs)
     laid-table = rows-are (Table ((meaning ts rs) .variables)) (rows-table ((meaning ts rs) .variables) hs (λ h m. rows-ok ((meaning ts rs) .variables) ((meaning ts rs) .rows) rowTerms h (subst (λ (x : List HalfRow). List·Memᴰ h (allHalves x)) all m)) (variables-le is) (omega (arith, l .used-is)) (omega (arith, l .halves-is)))
 
+    -- no weight is more than a coefficient
+    pub laid-weights : (j : ℕ) → getD (take used ws) j 0 ≤ maxCoef
+    laid-weights = rows-are (λ s v o w n. (j : ℕ) → getD w j 0 ≤ maxCoef) (weights-coef ((meaning ts rs) .variables) (allHalves hs) (λ h m. rows-ok ((meaning ts rs) .variables) ((meaning ts rs) .rows) rowTerms h (subst (λ (x : List HalfRow). List·Memᴰ h (allHalves x)) all m)))
+
     pub laid-hold : (a : ℕ) → Meets (take (halves + 1) starts) (take used vs) (take used os) (take used ws) (take halves needs) (bit a) → RowsHold ts rs a
     laid-hold a = rows-are (λ s v o w n. Meets s v o w n (bit a) → RowsHold ts rs a) (λ m. met-hold ((meaning ts rs) .rows) a kinds (λ r i. meets-all hs a m r (subst (List·Memᴰ r) (sym all) i)))
 
@@ -62,7 +66,7 @@ module _ {ts rs : List ℤ} (is : IsInstance ts rs) where
 -- ---- objectives
 
 -- places of k objectives with n numbers each
-place-parts : (n k j : ℕ) → j < k * n → (j / n < k) × ((j % n < n) × ((j / n) * n + j % n ≡ j))
+pub place-parts : (n k j : ℕ) → j < k * n → (j / n < k) × ((j % n < n) × ((j / n) * n + j % n ≡ j))
 place-parts zero k j h = absurd (omega arith)
 place-parts (suc n) k j h = (by (decLt (j / suc n) k), (mod-lt j (omega arith), div-add-mod' j (suc n)))
   where
@@ -110,6 +114,9 @@ module _ {ts rs : List ℤ} (is : IsInstance ts rs) {k m : ℕ} (ke : k ≡ obje
   few-terms =
       omega
       (arith, l .used-is, ap (λ (hs : List HalfRow). length (allHalves hs)) all, all-few ((meaning ts rs) .rows) .1, instance-within is .few-terms, ap length (allTerms-append ((meaning ts rs) .objectives) ((meaning ts rs) .rows)), length-append (allTerms ((meaning ts rs) .objectives)) (allTerms ((meaning ts rs) .rows)))
+
+  pub few-weights : (j : ℕ) → getD (take used ws) j 0 ≤ maxCoef
+  few-weights = laid-weights is all l (omega (arith, few-halves)) (omega (arith, few-terms))
 
   pub normal-is : {n : ℕ} → n ≡ (meaning ts rs) .variables → {d₀ d dear₀ dear : List ℕ} → PricedAll ts rs n k d₀ d dear₀ dear → k * n ≤ length d → k * n ≤ length dear
       → Normal ts rs n k (take (halves + 1) starts) (take used vs) (take used os) (take used ws) (take halves needs) (take (k * n) d) (take (k * n) dear)

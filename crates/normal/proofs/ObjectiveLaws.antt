@@ -12,9 +12,9 @@ use Rattle.instance.specs.Terms.{sum}
 use Rattle.instance.specs.Meaning.{termsAt}
 use Rattle.normal.specs.Halves.{lostAll}
 use Rattle.normal.specs.Rows.{halvesAt}
-use Rattle.normal.specs.Costs.{Spread, Settled}
+use Rattle.normal.specs.Costs.{baseOf, Spread, Settled}
 use Rattle.normal.proofs.HalfLaws.{halves-give}
-use Rattle.normal.proofs.SettleLaws.{baseOf, cost-sides}
+use Rattle.normal.proofs.SettleLaws.{cost-sides}
 
 -- the cost with what every assignment costs is the value with what was added
 pub objective-cost : (ts : List ℤ) (first count n o : ℕ) {sides₀ sides d₀ d dear₀ dear : List ℕ} → Spread ts first count n sides₀ sides → Settled o n sides d₀ d dear₀ dear

@@ -19,20 +19,19 @@ use Rattle.instance.specs.declared.entries.Entry.{Entry as EntryNumbers}
 use Rattle.instance.proofs.InstanceLaws.{entry-inside, entry-terms, variable-le}
 use Rattle.normal.specs.Halves.{lostAll}
 use Rattle.normal.specs.Rows.{halvesAt}
-use Rattle.normal.specs.Costs.{gapOf, dearOf, Spread, Settled, valueOf, Priced, PricedOne, PricedAll}
-use Rattle.normal.proofs.SettleLaws.{baseOf}
+use Rattle.normal.specs.Costs.{baseOf, gapOf, dearOf, Spread, Settled, valueOf, Priced, PricedOne, PricedAll}
 use Rattle.normal.proofs.ObjectiveLaws.{objective-cost, cost-le, value-le}
 
 -- ---- gapOf, dearOf
 
-gap-le : (z w m : ℕ) → z ≤ m → w ≤ m → gapOf z w ≤ m
+pub gap-le : (z w m : ℕ) → z ≤ m → w ≤ m → gapOf z w ≤ m
 gap-le z w m h l = by (ltb z w)
   where
     by : (t : Bool) → cond t (w - z) (z - w) ≤ m
     by true = omega arith
     by false = omega arith
 
-dear-two : (z w : ℕ) → dearOf z w < 2
+pub dear-two : (z w : ℕ) → dearOf z w < 2
 dear-two z w = by (ltb z w)
   where
     by : (t : Bool) → cond t 1 0 < 2
@@ -73,10 +72,10 @@ pub priced-none : (ts rs : List ℤ) (n : ℕ) (d dear : List ℕ) → PricedAll
 priced-none ts rs n d dear = record { gaps-same = refl; dear-same = refl; each = λ i h. absurd (omega arith) }
 
 -- the numbers of an earlier objective come before those of a later one
-earlier-below : (i j n v : ℕ) → i < j → v < n → i * n + v < j * n
+pub earlier-below : (i j n v : ℕ) → i < j → v < n → i * n + v < j * n
 earlier-below i j n v h l = omega (arith, mul-le-mul-right n h, suc-mul i n)
 
-span-same : (f g : ℕ → ℕ) (n : ℕ) → ((v : ℕ) → v < n → f v ≡ g v) → span f 0 n ≡ span g 0 n
+pub span-same : (f g : ℕ → ℕ) (n : ℕ) → ((v : ℕ) → v < n → f v ≡ g v) → span f 0 n ≡ span g 0 n
 unfolding span
 span-same f g zero h = refl
 span-same f g (suc n) h = ap₂ _+_ (span-same f g n (λ v l. h v (omega arith))) (h (0 + n) (omega arith))

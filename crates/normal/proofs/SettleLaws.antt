@@ -11,7 +11,7 @@ use lib.Seq.{getD-set-same, getD-set-other}
 use borrow.Author.Tests.{lt-ltb, le-ltb}
 use Rattle.charging.specs.Rows.{pick, hit, span, cost, bit}
 use Rattle.charging.proofs.BitLaws.{bit-two}
-use Rattle.normal.specs.Costs.{sidesSum, gapOf, dearOf, Settled}
+use Rattle.normal.specs.Costs.{sidesOf, sidesSum, baseOf, gapOf, dearOf, Settled}
 
 -- ---- Settled
 
@@ -92,19 +92,18 @@ span-two f g e (suc n) h = omega (arith, span-two f g e n (λ v l. h v (omega ar
     last : 0 + n ≡ n
     last = omega arith
 
--- what every assignment costs at least
-abbrev pub baseOf : ℕ → List ℕ → ℕ
-baseOf n sides = span (λ (v : ℕ). min (getD sides (v * 2) 0) (getD sides (v * 2 + 1) 0)) 0 n
-
 -- the cost on the dear sides, with what every assignment costs, is what the sides come to
-pub cost-sides : (o n : ℕ) {sides d₀ d dear₀ dear : List ℕ} → Settled o n sides d₀ d dear₀ dear → (a : ℕ) → cost n d dear o (bit a) + baseOf n sides ≡ sidesSum n sides a
-cost-sides o n {sides} {d₀} {d} {dear₀} {dear} s a =
-    span-two (λ (v : ℕ). hit (bit a v) (getD dear (o + v) 0) (getD d (o + v) 0)) (λ (v : ℕ). min (getD sides (v * 2) 0) (getD sides (v * 2 + 1) 0)) (λ (v : ℕ). getD sides (v * 2 + bit a v) 0) n (λ v l. each v l)
+pub cost-sides-of : (o n : ℕ) {sides d₀ d dear₀ dear : List ℕ} → Settled o n sides d₀ d dear₀ dear → (x : ℕ → ℕ) → ((v : ℕ) → v < n → x v < 2) → cost n d dear o x + baseOf n sides ≡ sidesOf n sides x
+cost-sides-of o n {sides} {d₀} {d} {dear₀} {dear} s x two =
+    span-two (λ (v : ℕ). hit (x v) (getD dear (o + v) 0) (getD d (o + v) 0)) (λ (v : ℕ). min (getD sides (v * 2) 0) (getD sides (v * 2 + 1) 0)) (λ (v : ℕ). getD sides (v * 2 + x v) 0) n (λ v l. each v l)
   where
-    each : (v : ℕ) → v < n → hit (bit a v) (getD dear (o + v) 0) (getD d (o + v) 0) + min (getD sides (v * 2) 0) (getD sides (v * 2 + 1) 0) ≡ getD sides (v * 2 + bit a v) 0
+    each : (v : ℕ) → v < n → hit (x v) (getD dear (o + v) 0) (getD d (o + v) 0) + min (getD sides (v * 2) 0) (getD sides (v * 2 + 1) 0) ≡ getD sides (v * 2 + x v) 0
     each v l =
-        ap₂ (λ (x y : ℕ). hit (bit a v) x y + min (getD sides (v * 2) 0) (getD sides (v * 2 + 1) 0)) (s .dears v l) (s .gaps v l)
-        ∙ hit-side (getD sides (v * 2) 0) (getD sides (v * 2 + 1) 0) (bit a v) (bit-two a v) ∙ side-at sides v (bit a v) (bit-two a v)
+        ap₂ (λ (a b : ℕ). hit (x v) a b + min (getD sides (v * 2) 0) (getD sides (v * 2 + 1) 0)) (s .dears v l) (s .gaps v l)
+        ∙ hit-side (getD sides (v * 2) 0) (getD sides (v * 2 + 1) 0) (x v) (two v l) ∙ side-at sides v (x v) (two v l)
+
+pub cost-sides : (o n : ℕ) {sides d₀ d dear₀ dear : List ℕ} → Settled o n sides d₀ d dear₀ dear → (a : ℕ) → cost n d dear o (bit a) + baseOf n sides ≡ sidesSum n sides a
+cost-sides o n s a = cost-sides-of o n s (bit a) (λ v l. bit-two a v)
 
 -- with all variables
 pub settled-as : (o : ℕ) {j n : ℕ} → j ≡ n → {sides d₀ d dear₀ dear : List ℕ} → Settled o j sides d₀ d dear₀ dear → Settled o n sides d₀ d dear₀ dear

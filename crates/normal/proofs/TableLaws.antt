@@ -91,12 +91,15 @@ module _ (n : ℕ) (hs : List Half) (f : (h : Half) → List·Memᴰ h hs → Ha
   unfolding noHalf
   weight-at k = List·getD-map (λ h. h .weight) hs k noHalf
 
-  weight-small : (k : ℕ) → getD (weightsOf hs) k 0 ≤ 2 ^ 34
-  weight-small k = by (decLt k (length hs))
+  pub weights-coef : (k : ℕ) → getD (weightsOf hs) k 0 ≤ maxCoef
+  weights-coef k = by (decLt k (length hs))
     where
-      by : Dec (k < length hs) → getD (weightsOf hs) k 0 ≤ 2 ^ 34
+      by : Dec (k < length hs) → getD (weightsOf hs) k 0 ≤ maxCoef
       by (yes l) = omega (arith, weight-at k, at-ok k l .weight)
       by (no l) = omega (arith, List·getD-eq-default (weightsOf hs) 0 {n = k} (omega (arith, length-map hs (λ h. h .weight))))
+
+  weight-small : (k : ℕ) → getD (weightsOf hs) k 0 ≤ 2 ^ 34
+  weight-small k = omega (arith, weights-coef k)
 
   pub terms-table : n ≤ maxVariable → length hs ≤ 2 ^ 24 → Terms n (variablesOf hs) (offsOf hs) (weightsOf hs)
   terms-table few short = record {

@@ -15,8 +15,15 @@ use Rattle.normal.specs.Halves.{givesAll}
 use Rattle.normal.specs.Rows.{halvesAt}
 
 -- What the sides of the n variables come to under an assignment: two numbers a variable, for 0 and for 1.
+abbrev pub sidesOf : ℕ → List ℕ → (ℕ → ℕ) → ℕ
+sidesOf n sides x = span (λ (v : ℕ). getD sides (v * 2 + x v) 0) 0 n
+
 abbrev pub sidesSum : ℕ → List ℕ → ℕ → ℕ
-sidesSum n sides a = span (λ (v : ℕ). getD sides (v * 2 + bit a v) 0) 0 n
+sidesSum n sides a = sidesOf n sides (bit a)
+
+-- What every assignment comes to at least.
+abbrev pub baseOf : ℕ → List ℕ → ℕ
+baseOf n sides = span (λ (v : ℕ). min (getD sides (v * 2) 0) (getD sides (v * 2 + 1) 0)) 0 n
 
 -- The sides hold the terms: under each assignment they come to what the terms give; none is large.
 pub record Spread (ts : List ℤ) (first k n : ℕ) (sides₀ sides : List ℕ) : Type 0 where

@@ -15,7 +15,7 @@ ghost use Rattle.instance.specs.Meaning.{meaning};
 ghost use Rattle.normal.specs.Costs.{gapOf, dearOf, Spread, Settled, PricedOne, PricedAll};
 
 // Sets every number of a run to 0.
-fn clear(run: &mut [u64])
+pub fn clear(run: &mut [u64])
     ensures { λ _. ⌜ ((i : ℕ) → getD (now (run .exit)) i 0 ≡ 0) ⌝ }
 {
     let mut i: usize = 0;
