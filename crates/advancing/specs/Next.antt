@@ -6,7 +6,7 @@ use Prim.Native.Nat.{ℕ, _^_, _≤_, _<_}
 use lib.ListN.{getD}
 use Rattle.charging.specs.Rows.{bit, Meets}
 use Rattle.capping.specs.Caps.{vec, less, at}
-use Rattle.seeking.specs.Least.{Fit}
+use Rattle.seeking.specs.Gathers.{Fit}
 
 -- The vector `top` is the least, first objective first, among those of assignments that meet the rows and are weakly dominated by none of the m
 -- points of l, and a is the smallest number of an assignment that meets the rows and has exactly that vector; or there is no such assignment.

@@ -1,21 +1,211 @@
 // The next point of the list (document 01, 'The front'), over normal tables: the least vector that no listed point weakly dominates,
 // and its smallest witness.
 //
-// next_point(.., l, m, ..)   leaves the vector in `top` and answers the witness's number, or that no point is left
+// next_point(.., l, m, .., stock)   leaves the vector in `costs` and answers the witness's number, or that no point is left, and the stock
 //
-// Read specs/Next.antt; proofs/NextLaws.antt says why the smallest witness has exactly the least vector.
-use narrowing::Cut;
+// Points come from a stock in lent runs (crate seeking), which is gathered anew, by one search tree, only when it is empty and there was a limit.
+// A caller begins with the empty stock under the limit 0, which nothing comes before (stocked-empty), and goes on with the stock of the answer
+// after it has listed the point (stocked-more). Read specs/Next.antt and specs/Stocked.antt; proofs/NextLaws.antt has the argument.
+use seeking::Stock;
+ghost use mathlib.Core.Path.{_≡_};
+ghost use mathlib.Core.Bool.{true, false};
+ghost use Prim.Native.Nat.{_-_, _*_, _<_, _≤_};
+ghost use lib.ListN.{length};
 ghost use Rattle.charging.specs.Rows.{Table};
-ghost use Rattle.seeking.specs.Least.{Sizes};
+ghost use Rattle.capping.specs.Caps.{at};
+ghost use Rattle.seeking.specs.Gathers.{Sizes};
 ghost use Rattle.advancing.specs.Next.{Next};
+ghost use Rattle.advancing.specs.Stocked.{Stocked, Sifted, Chosen, Ready};
 
-// Whether there is a next point, and the number of its witness.
+// How many gathered points are left, and the place of the one that is chosen.
+pub struct Pick {
+    pub count: usize,
+    pub place: usize,
+}
+
+// The stock, and the place of the gathered point that is chosen.
+pub struct Choice {
+    pub stock: Stock,
+    pub place: usize,
+}
+
+// Whether there is a next point, the number of its witness, and the stock for the point after it.
 pub struct Advance {
     pub ok: bool,
     pub number: u64,
+    pub stock: Stock,
 }
 
-// The point after the m points of l: its vector in `top`, its witness in the answer. `order` is a hint; res, lb and cap are scratch.
+// Takes out the least gathered point as long as a listed one weakly dominates it. The vector of the one that is chosen is left in `costs`.
+pub fn sift(
+    k: usize,
+    l: &[u64],
+    m: usize,
+    g: &mut [u64],
+    found: &mut [u64],
+    costs: &mut [u64],
+    c: usize,
+) -> Pick
+    requires { ⌜ (m * k ≤ length (now l)) × (length (now found) * k ≤ length (now g)) × (k ≤ length (now costs)) × (c ≤ length (now found)) ⌝ }
+    ensures sifted { λ r. ⌜ Sifted k (now (l .entry)) m (now (g .entry)) (now (found .entry)) c (now (g .exit)) (now (found .exit)) (r .count) ⌝ }
+    ensures chosen { λ r. ⌜ Chosen k (now (l .entry)) m (now (g .exit)) (r .count) (r .place) (at (now (costs .exit))) ⌝ }
+{
+    let mut count = c;
+    while 0 < count {
+        let j = seeking::least(k, &*g, count);
+        seeking::load(k, &*g, j * k, costs);
+        if seeking::fresh(k, &*costs, l, m) {
+            return Pick {
+                count: count,
+                place: j,
+            };
+        }
+        count -= 1;
+        seeking::drop_point(k, g, found, j, count, costs);
+    }
+    Pick { count: 0, place: 0 }
+}
+
+// Gathers anew, by one tree, and chooses.
+pub fn gather(
+    n: usize,
+    start: &[usize],
+    tv: &[usize],
+    off: &[u8],
+    w: &[u64],
+    need: &[u64],
+    d: &[u64],
+    dear: &[u8],
+    k: usize,
+    l: &[u64],
+    m: usize,
+    order: &[usize],
+    res: &mut [u64],
+    lb: &mut [u64],
+    cap: &mut [u64],
+    g: &mut [u64],
+    found: &mut [u64],
+    top: &mut [u64],
+    costs: &mut [u64],
+) -> Choice
+    requires table { ⌜ Table n (now start) (now tv) (now off) (now w) (now need) × Sizes n k m (now d) (now dear) (now l) (now g) (now found) (now top) (now lb) (now cap) (now res) × (k ≤ length (now costs)) ⌝ }
+    ensures { λ r. ⌜ Ready n (now (start .entry)) (now (tv .entry)) (now (off .entry)) (now (w .entry)) (now (need .entry)) (now (d .entry)) (now (dear .entry)) k (now (l .entry)) m (now (g .exit)) (now (found .exit)) (r .stock .count) (r .stock .cut) (now (top .exit)) (r .place) (at (now (costs .exit))) ⌝ }
+{
+    let p = narrowing::blank(n);
+    let nothing = Stock {
+        count: 0,
+        cut: false,
+    };
+    let got = seeking::search(
+        n,
+        start,
+        tv,
+        off,
+        w,
+        need,
+        d,
+        dear,
+        k,
+        l,
+        m,
+        order,
+        res,
+        lb,
+        cap,
+        g,
+        found,
+        top,
+        p,
+        nothing,
+    );
+    let count = got.count;
+    if count == 0 {
+        return Choice {
+            stock: got,
+            place: 0,
+        };
+    }
+    let j = seeking::least(k, &*g, count);
+    seeking::load(k, &*g, j * k, costs);
+    Choice {
+        stock: got,
+        place: j,
+    }
+}
+
+// Chooses from the stock; where it has none left but there was a limit, gathers anew.
+pub fn choose(
+    n: usize,
+    start: &[usize],
+    tv: &[usize],
+    off: &[u8],
+    w: &[u64],
+    need: &[u64],
+    d: &[u64],
+    dear: &[u8],
+    k: usize,
+    l: &[u64],
+    m: usize,
+    order: &[usize],
+    res: &mut [u64],
+    lb: &mut [u64],
+    cap: &mut [u64],
+    g: &mut [u64],
+    found: &mut [u64],
+    top: &mut [u64],
+    costs: &mut [u64],
+    stock: Stock,
+) -> Choice
+    requires table { ⌜ Table n (now start) (now tv) (now off) (now w) (now need) × Sizes n k m (now d) (now dear) (now l) (now g) (now found) (now top) (now lb) (now cap) (now res) × (k ≤ length (now costs)) ⌝ }
+    requires stocked { ⌜ Stocked n (now start) (now tv) (now off) (now w) (now need) (now d) (now dear) k (now l) m (now g) (now found) (stock .count) (stock .cut) (now top) ⌝ }
+    ensures { λ r. ⌜ Ready n (now (start .entry)) (now (tv .entry)) (now (off .entry)) (now (w .entry)) (now (need .entry)) (now (d .entry)) (now (dear .entry)) k (now (l .entry)) m (now (g .exit)) (now (found .exit)) (r .stock .count) (r .stock .cut) (now (top .exit)) (r .place) (at (now (costs .exit))) ⌝ }
+{
+    let c = stock.count;
+    let had = sift(k, l, m, g, found, costs, c);
+    let left = had.count;
+    let cut = stock.cut;
+    if 0 < left {
+        return Choice {
+            stock: Stock {
+                count: left,
+                cut: cut,
+            },
+            place: had.place,
+        };
+    }
+    if cut {
+        return gather(
+            n,
+            start,
+            tv,
+            off,
+            w,
+            need,
+            d,
+            dear,
+            k,
+            l,
+            m,
+            order,
+            res,
+            lb,
+            cap,
+            g,
+            found,
+            top,
+            costs,
+        );
+    }
+    Choice {
+        stock: Stock {
+            count: left,
+            cut: cut,
+        },
+        place: 0,
+    }
+}
+
+// The point after the m points of l: its vector in `costs`, its witness in the answer. `order` is a hint; res, lb and cap are scratch.
 // Rules out: a vector that a listed point weakly dominates; a later vector; a witness that is not the smallest.
 pub fn next_point(
     n: usize,
@@ -33,14 +223,18 @@ pub fn next_point(
     res: &mut [u64],
     lb: &mut [u64],
     cap: &mut [u64],
+    g: &mut [u64],
+    found: &mut [u64],
     top: &mut [u64],
+    costs: &mut [u64],
+    stock: Stock,
 ) -> Advance
-    requires { ⌜ Table n (now start) (now tv) (now off) (now w) (now need) × Sizes n k m (now d) (now dear) (now l) (now top) (now lb) (now cap) (now res) ⌝ }
-    ensures { λ r. ⌜ Next n (now (start .entry)) (now (tv .entry)) (now (off .entry)) (now (w .entry)) (now (need .entry)) (now (d .entry)) (now (dear .entry)) k (now (l .entry)) m (r .ok) (r .number) (now (top .exit)) ⌝ }
+    requires table { ⌜ Table n (now start) (now tv) (now off) (now w) (now need) × Sizes n k m (now d) (now dear) (now l) (now g) (now found) (now top) (now lb) (now cap) (now res) × (k ≤ length (now costs)) ⌝ }
+    requires stocked { ⌜ Stocked n (now start) (now tv) (now off) (now w) (now need) (now d) (now dear) k (now l) m (now g) (now found) (stock .count) (stock .cut) (now top) ⌝ }
+    ensures next { λ r. ⌜ Next n (now (start .entry)) (now (tv .entry)) (now (off .entry)) (now (w .entry)) (now (need .entry)) (now (d .entry)) (now (dear .entry)) k (now (l .entry)) m (r .ok) (r .number) (now (costs .exit)) ⌝ }
+    ensures stocked { λ r. ⌜ Stocked n (now (start .entry)) (now (tv .entry)) (now (off .entry)) (now (w .entry)) (now (need .entry)) (now (d .entry)) (now (dear .entry)) k (now (l .entry)) m (now (g .exit)) (now (found .exit)) (r .stock .count) (r .stock .cut) (now (top .exit)) ⌝ }
 {
-    let p = narrowing::blank(n);
-    let nothing = Cut { ok: false, part: p };
-    let best = seeking::search(
+    let r = choose(
         n,
         start,
         tv,
@@ -56,17 +250,23 @@ pub fn next_point(
         res,
         lb,
         cap,
+        g,
+        found,
         top,
-        p,
-        nothing,
+        costs,
+        stock,
     );
-    let ok = best.ok;
-    if !ok {
+    let kept = r.stock;
+    let count = kept.count;
+    if count == 0 {
         return Advance {
             ok: false,
             number: 0,
+            stock: kept,
         };
     }
+    let j = r.place;
+    let known = found[j];
     let a = lowering::smallest(
         n,
         start,
@@ -77,13 +277,14 @@ pub fn next_point(
         d,
         dear,
         k,
-        &*top,
+        &*costs,
         order,
         res,
-        best.part.one,
+        known,
     );
     Advance {
         ok: true,
         number: a,
+        stock: kept,
     }
 }

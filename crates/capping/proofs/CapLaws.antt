@@ -1,5 +1,5 @@
--- R3: what comes before the incumbent is at most it in the first place, and as long as the bound is equal to it, in the next.
--- R4: what no listed point weakly dominates is below each point in some place; where the bound is below a point in one place only, it is that one.
+-- R3: what comes before the limit is at most it in the first place, and as long as the bound is equal to it, in the next.
+-- R4: what no point weakly dominates is below each point in some place; where the bound is below a point in one place only, it is that one.
 use mathlib.Core.Path.{_≡_, refl, sym, subst, _∙_}
 use mathlib.Core.Logic.{_⊎_, inl, inr, ⊎-elim}
 use mathlib.Core.Bool.{Bool, true, false}

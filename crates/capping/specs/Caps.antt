@@ -38,6 +38,10 @@ Free k l a f = ((i : ℕ) → i < k → getD l (a + i) 0 ≤ f i) → ⊥
 abbrev pub Fresh : ℕ → List ℕ → ℕ → (ℕ → ℕ) → Type 0
 Fresh k l m f = (q : ℕ) → q < m → Free k l (q * k) f
 
+-- Before the limit if there is one, and weakly dominated by none of the m listed points of l and none of the c gathered points of g.
+abbrev pub Sought : ℕ → List ℕ → ℕ → List ℕ → ℕ → Bool → List ℕ → (ℕ → ℕ) → Type 0
+Sought k l m g c have top f = ((have ≡ true → less k 0 f (at top)) × Fresh k l m f) × Fresh k g c f
+
 -- What has Q between lb and cap is at most cap′ too; or there is none.
 pub record Tight (k : ℕ) (lb cap cap′ : List ℕ) (Q : (ℕ → ℕ) → Type 0) (r : Bool) : Type 0 where
   pub some : r ≡ true → (f : ℕ → ℕ) → Above k lb f → Below k cap f → Q f → Below k cap′ f

@@ -1,8 +1,8 @@
-// Capping (R3 and R4): caps on the objectives from lower bounds, an incumbent and the listed points.
+// Capping (R3 and R4): caps on the objectives from lower bounds, a limit, the listed points and the gathered ones.
 //
-// caps(.., l, m, have, top, p, lb, cap)   charged lower bounds in lb; in cap, caps for all that is wanted below p; or that nothing is
+// caps(.., l, m, g, c, have, top, p, lb, cap)   charged lower bounds in lb; in cap, caps for all that is wanted below p; or that nothing is
 //
-// Listed points: the k numbers of point q begin at q * k in l. Read specs/Caps.antt; proofs/CapLaws.antt has the argument.
+// Points: the k numbers of point q begin at q * k, in l if it is listed and in g if it is gathered. Read specs/Caps.antt; proofs/CapLaws.antt has the argument.
 use narrowing::Part;
 ghost use mathlib.Core.Path.{_≡_};
 ghost use mathlib.Core.Logic.{_⊎_};
@@ -10,7 +10,7 @@ ghost use mathlib.Core.Bool.{true, false};
 ghost use Prim.Native.Nat.{ℕ, _+_, _-_, _*_, _<_, _≤_};
 ghost use lib.ListN.{length};
 ghost use Rattle.charging.specs.Rows.{Table, Meets, Costs};
-ghost use Rattle.capping.specs.Caps.{vec, less, at, Free, Fresh, Tight, Capped, Low};
+ghost use Rattle.capping.specs.Caps.{vec, less, at, Free, Fresh, Tight, Sought, Capped, Low};
 
 // The lesser of two.
 pub fn min(a: u64, b: u64) -> u64
@@ -22,7 +22,7 @@ pub fn min(a: u64, b: u64) -> u64
     a
 }
 
-// R3: the caps that the incumbent gives.
+// R3: the caps that the limit gives.
 pub fn ahead(k: usize, lb: &[u64], top: &[u64], cap: &mut [u64]) -> bool
     requires { ⌜ (k ≤ length (now lb)) × (k ≤ length (now top)) × (k ≤ length (now cap)) ⌝ }
     ensures { λ r. ⌜ Tight k (now (lb .entry)) (now (cap .entry)) (now (cap .exit)) (λ (f : ℕ → ℕ). less k 0 f (at (now (top .entry)))) r ⌝ }
@@ -41,7 +41,7 @@ pub fn ahead(k: usize, lb: &[u64], top: &[u64], cap: &mut [u64]) -> bool
     false
 }
 
-// R4: the cap that one listed point gives, where lb leaves it one place to be beaten at.
+// R4: the cap that one point gives, where lb leaves it one place to be beaten at.
 pub fn point(k: usize, lb: &[u64], l: &[u64], a: usize, cap: &mut [u64]) -> bool
     requires { ⌜ (k ≤ length (now lb)) × (a + k ≤ length (now l)) × (k ≤ length (now cap)) ⌝ }
     ensures { λ r. ⌜ Tight k (now (lb .entry)) (now (cap .entry)) (now (cap .exit)) (Free k (now (l .entry)) a) r ⌝ }
@@ -64,7 +64,7 @@ pub fn point(k: usize, lb: &[u64], l: &[u64], a: usize, cap: &mut [u64]) -> bool
     false
 }
 
-// R3, if there is an incumbent.
+// R3, if there is a limit.
 pub fn ahead_if(have: bool, k: usize, lb: &[u64], top: &[u64], cap: &mut [u64]) -> bool
     requires { ⌜ (k ≤ length (now lb)) × (k ≤ length (now top)) × (k ≤ length (now cap)) ⌝ }
     ensures { λ r. ⌜ Tight k (now (lb .entry)) (now (cap .entry)) (now (cap .exit)) (λ (f : ℕ → ℕ). (have ≡ true → less k 0 f (at (now (top .entry))))) r ⌝ }
@@ -144,6 +144,8 @@ pub fn caps(
     k: usize,
     l: &[u64],
     m: usize,
+    g: &[u64],
+    c: usize,
     have: bool,
     top: &[u64],
     p: Part,
@@ -151,13 +153,17 @@ pub fn caps(
     lb: &mut [u64],
     cap: &mut [u64],
 ) -> bool
-    requires { ⌜ Table n (now start) (now tv) (now off) (now w) (now need) × ((i : ℕ) → i < k → Costs n (now d) (now dear) (i * n)) × (n ≤ length (now res)) × (k ≤ length (now lb)) × (k ≤ length (now cap)) × (m * k ≤ length (now l)) × (k ≤ length (now top)) ⌝ }
-    ensures { λ r. ⌜ Capped n (λ (x : ℕ → ℕ). ((have ≡ true → less k 0 (vec n (now (d .entry)) (now (dear .entry)) x) (at (now (top .entry)))) × Fresh k (now (l .entry)) m (vec n (now (d .entry)) (now (dear .entry)) x)) × Meets (now (start .entry)) (now (tv .entry)) (now (off .entry)) (now (w .entry)) (now (need .entry)) x) (now (d .entry)) (now (dear .entry)) k p (now (cap .exit)) r ⌝ }
+    requires { ⌜ Table n (now start) (now tv) (now off) (now w) (now need) × ((i : ℕ) → i < k → Costs n (now d) (now dear) (i * n)) × (n ≤ length (now res)) × (k ≤ length (now lb)) × (k ≤ length (now cap)) × (m * k ≤ length (now l)) × (c * k ≤ length (now g)) × (k ≤ length (now top)) ⌝ }
+    ensures { λ r. ⌜ Capped n (λ (x : ℕ → ℕ). Sought k (now (l .entry)) m (now (g .entry)) c have (now (top .entry)) (vec n (now (d .entry)) (now (dear .entry)) x) × Meets (now (start .entry)) (now (tv .entry)) (now (off .entry)) (now (w .entry)) (now (need .entry)) x) (now (d .entry)) (now (dear .entry)) k p (now (cap .exit)) r ⌝ }
 {
     charges(n, start, tv, off, w, need, d, dear, k, p, res, lb, cap);
     let ok = ahead_if(have, k, &*lb, top, cap);
     if !ok {
         return false;
     }
-    points(k, &*lb, l, m, cap)
+    let fine = points(k, &*lb, l, m, cap);
+    if !fine {
+        return false;
+    }
+    points(k, &*lb, g, c, cap)
 }

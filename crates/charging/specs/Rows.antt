@@ -111,8 +111,8 @@ pub record Step (n : ℕ) (start tv off w need : List ℕ) (val : ℕ → ℕ) (
   pub low : r ≤ 2 ^ 34
   pub falls : (x : ℕ → ℕ) → Completes n val x → Meets start tv off w need x → rest n res′ dear o x + r ≤ rest n res dear o x
 
--- What meets the rows costs at most its cap by each of e limits, whose numbers stand as those of objectives do (rule R7).
-pub record Limited (n : ℕ) (start tv off w need : List ℕ) (e : ℕ) (d dear caps : List ℕ) : Type 0 where
+-- What meets the rows costs at most its cap by each of e ceilings, whose numbers stand as those of objectives do (rule R7).
+pub record Ceiled (n : ℕ) (start tv off w need : List ℕ) (e : ℕ) (d dear caps : List ℕ) : Type 0 where
   pub costs : (i : ℕ) → i < e → Costs n d dear (i * n)
   pub room : e ≤ length caps
   pub bound : (i : ℕ) → i < e → (x : ℕ → ℕ) → ((v : ℕ) → v < n → x v < 2) → Meets start tv off w need x → cost n d dear (i * n) x ≤ getD caps i 0

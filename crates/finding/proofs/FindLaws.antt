@@ -20,6 +20,15 @@ use Rattle.forcing.proofs.ForceLaws.{cost-up}
 pub other : (a b : ℕ) → a < 2 → b < 2 → (a ≡ b → ⊥) → a ≡ 1 - b
 other a b l m f = ⊎-elim (λ e. e) (λ e. absurd (f (omega (arith, e)))) (eq-or a (1 - b))
 
+-- a complete part is the assignment whose number its word `one` is
+pub number-part : (n : ℕ) (y : ℕ → ℕ) (r : Part) → Completes n y (of r) → (v : ℕ) → v < n → of r v ≡ bit (r .one) v
+number-part n y r c v l =
+    ⊎-elim (λ e. absurd (omega (arith, c .bits v l, seen-unset (r .set) (r .one) v e))) (λ e. seen-set (r .set) (r .one) v e) (eq-or (bit (r .set) v) 0)
+
+pub number-completes : (n : ℕ) (y : ℕ → ℕ) (r : Part) → Completes n y (of r) → Completes n y (bit (r .one)) × Completes n (bit (r .one)) (of r)
+number-completes n y r c =
+    (record { bits = λ v l. bit-two (r .one) v; agrees = λ v l e. sym (number-part n y r c v l) ∙ c .agrees v l e }, record { bits = c .bits; agrees = λ v l e. number-part n y r c v l })
+
 module _ (n : ℕ) (W : (ℕ → ℕ) → Type 0) where
   pub finds-cut : (p q : Part) (ok : Bool) (r : Part) → Leads n W p q → Finds n W q ok r → Finds n W p ok r
   finds-cut p q ok r a f =

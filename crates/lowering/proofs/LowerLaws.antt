@@ -11,7 +11,7 @@ use native.Mathlib.Nat.{div-eq-of-lt, div-one}
 use native.Mathlib.Omega.{arith}
 use Rattle.charging.specs.Rows.{bit, Table, Completes}
 use Rattle.charging.proofs.SumLaws.{eq-or}
-use Rattle.charging.proofs.BitLaws.{bit-two, seen-unset, seen-set}
+use Rattle.charging.proofs.BitLaws.{bit-two}
 use Rattle.charging.proofs.ChargeLaws.{reach-up}
 use Rattle.narrowing.specs.declared.Part.{Part}
 use Rattle.narrowing.specs.Parts.{of, Good, Put}
@@ -35,15 +35,6 @@ wanted-down n start tv off w need d dear k caps t o y x c u =
       meets = λ h l. omega (arith, reach-up n start tv off w need t y x c h l, u .meets h l);
       under = λ i l. omega (arith, cost-up n y d dear (i * n) (o .each i l) x c, u .under i l);
     }
-
--- a complete part is the assignment whose number its word `one` is
-pub number-part : (n : ℕ) (y : ℕ → ℕ) (r : Part) → Completes n y (of r) → (v : ℕ) → v < n → of r v ≡ bit (r .one) v
-number-part n y r c v l =
-    ⊎-elim (λ e. absurd (omega (arith, c .bits v l, seen-unset (r .set) (r .one) v e))) (λ e. seen-set (r .set) (r .one) v e) (eq-or (bit (r .set) v) 0)
-
-pub number-completes : (n : ℕ) (y : ℕ → ℕ) (r : Part) → Completes n y (of r) → Completes n y (bit (r .one)) × Completes n (bit (r .one)) (of r)
-number-completes n y r c =
-    (record { bits = λ v l. bit-two (r .one) v; agrees = λ v l e. sym (number-part n y r c v l) ∙ c .agrees v l e }, record { bits = c .bits; agrees = λ v l e. number-part n y r c v l })
 
 module _ (n : ℕ) (W : (ℕ → ℕ) → Type 0) where
   pub lowered-start : (p : Part) (a : ℕ) → Good n p → ((v : ℕ) → of p v ≡ 2) → W (bit a) → a < 2 ^ n → Lowered n W n p a

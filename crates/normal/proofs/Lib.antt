@@ -1,6 +1,6 @@
 -- Laws of an instance in natural numbers, for the lister.
 -- Rows: HalfLaws (a term), RowLaws (a row holds where its half rows are met), MeetLaws (all rows), TableLaws (the runs are a table of the search).
--- Objectives: CostLaws, SettleLaws, ObjectiveLaws (cost and value have one order), PricedLaws. NormalLaws: all tables. LimitLaws: half rows as caps.
+-- Objectives: CostLaws, SettleLaws, ObjectiveLaws (cost and value have one order), PricedLaws. NormalLaws: all tables. CeilingLaws: half rows as caps.
 -- The others serve the proofs of the functions: SideLaws, NeedLaws, LaidLaws, AddLaws, GrownLaws, LayLaws, SpanLaws.
 pub mod SideLaws
 pub mod HalfLaws
@@ -18,4 +18,4 @@ pub mod SettleLaws
 pub mod ObjectiveLaws
 pub mod PricedLaws
 pub mod NormalLaws
-pub mod LimitLaws
+pub mod CeilingLaws

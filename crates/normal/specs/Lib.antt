@@ -5,4 +5,4 @@ pub mod Rows
 pub mod Grown
 pub mod Costs
 pub mod Normal
-pub mod Limits
+pub mod Ceilings

@@ -3,7 +3,7 @@
 pub mod rows; // rows.rt: one half row laid out in runs
 pub mod fill; // fill.rt: the rows of an instance, one after the other
 pub mod costs; // costs.rt: objectives, by what each variable costs
-pub mod limits; // limits.rt: half rows as objectives with a cap
+pub mod ceilings; // ceilings.rt: half rows as objectives with a cap
 
 use instance::Term;
 use instance::signed::magnitude32;

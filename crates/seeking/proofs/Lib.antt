@@ -1,2 +1,3 @@
--- For seeking's own functions.
+-- For the lister above: StockLaws, SeekLaws.
+pub mod StockLaws
 pub mod SeekLaws

@@ -1,132 +1,182 @@
--- What is fit comes before the incumbent or is covered by it. So only what is wanted (fit and before the incumbent) counts below a node: where
--- nothing is, the incumbent stays; else it is below one of the children, and what the first child leaves covers all that it had covered.
-use mathlib.Core.Path.{_≡_, refl, _∙_}
+-- What is fit is wanted (dominated by no gathered point, and before the limit) or accounted for. So only what is wanted counts below a node: where
+-- nothing is, the stock stays; else it is below one of the children, and what was accounted for stays so.
+use mathlib.Core.Path.{_≡_, refl, subst, sym, _∙_}
 use mathlib.Core.Logic.{_⊎_, inl, inr, ⊎-elim}
 use mathlib.Core.Bool.{Bool, true, false}
 use mathlib.Core.List.{List}
 use Prim.Native.Nat.{ℕ, _+_, _-_, _*_, _^_, _≤_, _<_}
-use native.Mathlib.Nat.{not-suc-le-zero}
-use lib.Seq.{getD-set-same, getD-set-other}
-use borrow.Author.Count.{below-more}
 use native.Mathlib.Omega.{arith}
-use lib.ListN.{length, getD, set}
-use Rattle.charging.specs.Rows.{Completes, Meets, cost, Costs}
+use lib.ListN.{length, getD}
+use Rattle.charging.specs.Rows.{bit, Table, Completes, Meets, Costs}
 use Rattle.charging.proofs.SumLaws.{eq-or}
+use Rattle.charging.proofs.ChargeLaws.{reach-up}
 use Rattle.narrowing.specs.declared.Part.{Part}
 use Rattle.narrowing.specs.Parts.{of, Put, Leads, Cuts}
 use Rattle.narrowing.proofs.PartLaws.{cuts-off, cuts-then}
 use Rattle.forcing.specs.Goals.{Wanted}
-use Rattle.finding.specs.Finding.{Tells}
 use Rattle.forcing.proofs.ForceLaws.{cuts-less, cost-up}
-use Rattle.finding.proofs.FindLaws.{other, child-keep}
-use Rattle.capping.specs.Caps.{vec, less, at, Fresh, Capped}
-use Rattle.seeking.specs.Least.{Want, Fit, Covers, Holds, Best, Opened, Sizes}
-use Rattle.capping.proofs.OrderLaws.{no, on, lex-trans, lex-up, lex-or, lex-same, lex-mono}
+use Rattle.finding.specs.Finding.{Tells}
+use Rattle.finding.proofs.FindLaws.{other, child-keep, number-completes}
+use Rattle.capping.specs.Caps.{vec, less, at, Fresh, Sought, Capped}
+use Rattle.capping.proofs.OrderLaws.{on, lex-or, lex-mono}
+use Rattle.seeking.specs.Stocks.{Same, Within, Past, Accounted, Keeps}
+use Rattle.seeking.specs.Gathers.{Want, Fit, Known, Found, Held, Gathers, Room, Sizes}
+use Rattle.seeking.proofs.StockLaws.{fresh-or, fresh-down}
 
-pub open-none : (n : ℕ) (d dear : List ℕ) (p : Part) (lb cap : List ℕ) → Opened n d dear 0 p lb cap
-open-none n d dear p lb cap = record { sure = λ i l. absurd (not-suc-le-zero l); wide = λ i l. absurd (not-suc-le-zero l) }
+-- ---- Want: what each rule of reduce may not lose
 
-pub open-more : (n : ℕ) (d dear : List ℕ) (i : ℕ) (p : Part) (lb cap : List ℕ) (r : ℕ) → i < length lb → i < length cap → Opened n d dear i p lb cap → r ≡ cost n d dear (i * n) (of p)
-    → Opened n d dear (i + 1) p (set lb i r) (set cap i 1099511627776)
-open-more n d dear i p lb cap r l z old e =
-    record {
-      sure = below-more (λ (j : ℕ). getD (set lb i r) j 0 ≡ cost n d dear (j * n) (of p)) i (λ j y. getD-set-other lb i j r 0 (λ q. omega arith) ∙ old .sure j y) (getD-set-same lb i r 0 l ∙ e);
-      wide = below-more (λ (j : ℕ). getD (set cap i 1099511627776) j 0 ≡ 2 ^ 40) i (λ j y. getD-set-other cap i j 1099511627776 0 (λ q. omega arith) ∙ old .wide j y) (getD-set-same cap i 1099511627776 0 z);
-    }
-
-module _ (n : ℕ) (start tv off w need d dear : List ℕ) (k : ℕ) (l : List ℕ) (m : ℕ) (have : Bool) (top : List ℕ) where
+module _ (n : ℕ) (start tv off w need d dear : List ℕ) (k : ℕ) (l : List ℕ) (m : ℕ) (g : List ℕ) (c : ℕ) (have : Bool) (top : List ℕ) where
   abbrev pub W : (ℕ → ℕ) → Type 0
-  W = Want n start tv off w need d dear k l m have top
+  W = Want n start tv off w need d dear k l m g c have top
 
   abbrev pub Q : (ℕ → ℕ) → Type 0
-  Q x = ((have ≡ true → less k 0 (vec n d dear x) (at top)) × Fresh k l m (vec n d dear x)) × Meets start tv off w need x
+  Q x = Sought k l m g c have top (vec n d dear x) × Meets start tv off w need x
 
   pub want-rows : (p q r : Part) (ok : Bool) → Leads n W p q → Cuts n (Meets start tv off w need) q ok r → Cuts n W p ok r
-  want-rows p q r ok a c = cuts-then n W p q r ok a (cuts-less n (Meets start tv off w need) W q r ok (λ x _ u. u .meets) c)
+  want-rows p q r ok a e = cuts-then n W p q r ok a (cuts-less n (Meets start tv off w need) W q r ok (λ x _ u. u .meets) e)
 
   pub want-off : (p q : Part) (cap : List ℕ) → Leads n W p q → Capped n Q d dear k q cap false → Cuts n W p false q
-  want-off p q cap a c = cuts-then n W p q q false a (cuts-off n W q (a .good) (λ x z u. c .none refl x z ((u .before′, u .fresh), u .meets)))
+  want-off p q cap a e = cuts-then n W p q q false a (cuts-off n W q (a .good) (λ x z u. e .none refl x z (u .sought, u .meets)))
 
   pub want-forces : (p q r : Part) (cap : List ℕ) (ok : Bool) → Leads n W p q → Capped n Q d dear k q cap true → Cuts n (Wanted n start tv off w need d dear k cap) q ok r → Cuts n W p ok r
-  want-forces p q r cap ok a c f =
-      cuts-then n W p q r ok a (cuts-less n (Wanted n start tv off w need d dear k cap) W q r ok (λ x z u. record { meets = u .meets; under = c .some refl x z ((u .before′, u .fresh), u .meets) }) f)
+  want-forces p q r cap ok a e f =
+      cuts-then n W p q r ok a (cuts-less n (Wanted n start tv off w need d dear k cap) W q r ok (λ x z u. record { meets = u .meets; under = e .some refl x z (u .sought, u .meets) }) f)
+
+-- ---- Past: decided
+
+past-or : (k : ℕ) (have : Bool) (top : List ℕ) (f : ℕ → ℕ) → Past k have top f ⊎ (have ≡ true → less k 0 f (at top))
+past-or k false top f = inr (λ e. on e)
+past-or k true top f = ⊎-elim (λ y. inr (λ _. y)) (λ y. inl (refl, y)) (lex-or k 0 f (at top))
+
+-- ---- Known and Found
+
+pub known-same : (n : ℕ) (start tv off w need d dear : List ℕ) (k : ℕ) (f h : ℕ → ℕ) (a b : ℕ) → Same k f h → a ≡ b → Known n start tv off w need d dear k h b → Known n start tv off w need d dear k f a
+known-same n start tv off w need d dear k f h a b e z u =
+    subst (Known n start tv off w need d dear k f) (sym z) (record { fits = u .fits; meets = u .meets; value = λ i y. e i y ∙ u .value i y })
+
+pub found-same : (n : ℕ) (start tv off w need d dear : List ℕ) (k : ℕ) (l : List ℕ) (m : ℕ) (f h : ℕ → ℕ) (a b : ℕ) → Same k f h → a ≡ b → Found n start tv off w need d dear k l m h b → Found n start tv off w need d dear k l m f a
+found-same n start tv off w need d dear k l m f h a b e z u =
+    record { known = known-same n start tv off w need d dear k f h a b e z (u .known); fresh = fresh-down k l m f h (λ i y. omega (arith, e i y)) (u .fresh) }
+
+-- ---- Gathers
 
 module _ (n : ℕ) (start tv off w need d dear : List ℕ) (k : ℕ) (l : List ℕ) (m : ℕ) where
   abbrev pub F : (ℕ → ℕ) → Type 0
   F = Fit n start tv off w need d dear k l m
 
-  -- what is fit comes before the incumbent, or is covered by it
-  want-or : (have : Bool) (top : List ℕ) (x : ℕ → ℕ) → F x → Want n start tv off w need d dear k l m have top x ⊎ Covers k have top (vec n d dear x)
-  want-or false top x f = inl (record { meets = f .meets; fresh = f .fresh; before′ = λ e. on e })
-  want-or true top x f = ⊎-elim (λ y. inl (record { meets = f .meets; fresh = f .fresh; before′ = λ _. y })) (λ y. inr (refl, y)) (lex-or k 0 (vec n d dear x) (at top))
+  abbrev pub P : (ℕ → ℕ) → ℕ → Type 0
+  P = Found n start tv off w need d dear k l m
 
-  -- the incumbent stays: there is nothing wanted
-  pub best-stays : (p : Part) (have : Bool) (q : Part) (top : List ℕ) → Holds n F k d dear have q top
-      → ((x : ℕ → ℕ) → Completes n (of p) x → Want n start tv off w need d dear k l m have top x → ⊥) → Best n F k d dear p have top have q top
-  best-stays p have q top h f =
-      record { holds = h; least = λ x c u. ⊎-elim (λ y. absurd (f x c y)) (λ y. y) (want-or have top x u); kept = λ g c. c }
+  -- what is fit is wanted or accounted for
+  want-or : (g : List ℕ) (c : ℕ) (have : Bool) (top : List ℕ) (x : ℕ → ℕ) → F x → Want n start tv off w need d dear k l m g c have top x ⊎ Accounted k g c have top (vec n d dear x)
+  want-or g c have top x f =
+      ⊎-elim
+      (λ fr. ⊎-elim (λ p. inr (λ _. p)) (λ b. inl (record { meets = f .meets; sought = ((b, f .fresh), fr) })) (past-or k have top (vec n d dear x)))
+      (λ z. inr (λ fr. absurd (z fr))) (fresh-or k g c (vec n d dear x))
+
+  -- the stock stays: there is nothing wanted
+  pub gathers-stays : (p : Part) (g found : List ℕ) (c : ℕ) (have : Bool) (top : List ℕ) → Held P k g found c have top
+      → ((x : ℕ → ℕ) → Completes n (of p) x → Want n start tv off w need d dear k l m g c have top x → ⊥) → Gathers n F P k d dear p g found c have top g found c have top
+  gathers-stays p g found c have top h f =
+      record { held = h; some = λ s. s; all = λ x z u. ⊎-elim (λ y. absurd (f x z y)) (λ y. y) (want-or g c have top x u); kept = λ _ y. y }
 
   -- below a node: what is wanted is below its children
-  pub best-two : (p q : Part) (v b : ℕ) (q₀ q₁ : Part) (h : Bool) (t : List ℕ) (h₀ : Bool) (r₀ : Part) (t₀ : List ℕ) (h₁ : Bool) (r₁ : Part) (t₁ : List ℕ)
-      → Leads n (Want n start tv off w need d dear k l m h t) p q → v < n → b < 2 → Put n q v b q₀ → Put n q v (1 - b) q₁
-      → Best n F k d dear q₀ h t h₀ r₀ t₀ → Best n F k d dear q₁ h₀ t₀ h₁ r₁ t₁ → Best n F k d dear p h t h₁ r₁ t₁
-  best-two p q v b q₀ q₁ h t h₀ r₀ t₀ h₁ r₁ t₁ a i two p₀ p₁ b₀ b₁ =
+  pub gathers-two : (p q : Part) (v b : ℕ) (q₀ q₁ : Part) (g found : List ℕ) (c : ℕ) (h : Bool) (t g₀ found₀ : List ℕ) (c₀ : ℕ) (h₀ : Bool) (t₀ g₁ found₁ : List ℕ) (c₁ : ℕ) (h₁ : Bool) (t₁ : List ℕ)
+      → Leads n (Want n start tv off w need d dear k l m g c h t) p q → v < n → b < 2 → Put n q v b q₀ → Put n q v (1 - b) q₁
+      → Gathers n F P k d dear q₀ g found c h t g₀ found₀ c₀ h₀ t₀ → Gathers n F P k d dear q₁ g₀ found₀ c₀ h₀ t₀ g₁ found₁ c₁ h₁ t₁
+      → Gathers n F P k d dear p g found c h t g₁ found₁ c₁ h₁ t₁
+  gathers-two p q v b q₀ q₁ g found c h t g₀ found₀ c₀ h₀ t₀ g₁ found₁ c₁ h₁ t₁ a i two p₀ p₁ b₀ b₁ =
       record {
-        holds = b₁ .holds;
-        least = λ x c u.
+        held = b₁ .held;
+        some = λ s. b₁ .some (b₀ .some s);
+        all = λ x z u.
             ⊎-elim
-            (λ y. let z = a .narrows .keep x c y in
+            (λ y. let r = a .narrows .keep x z y in
             ⊎-elim
-            (λ e. b₁ .kept (vec n d dear x) (b₀ .least x (child-keep n F q v b q₀ p₀ i x z e) u))
-            (λ e. b₁ .least x (child-keep n F q v (1 - b) q₁ p₁ i x z (other (x v) b (z .bits v i) two e)) u)
+            (λ e. b₁ .kept (vec n d dear x) (b₀ .all x (child-keep n F q v b q₀ p₀ i x r e) u))
+            (λ e. b₁ .all x (child-keep n F q v (1 - b) q₁ p₁ i x r (other (x v) b (r .bits v i) two e)) u)
             (eq-or (x v) b))
             (λ y. b₁ .kept (vec n d dear x) (b₀ .kept (vec n d dear x) y))
-            (want-or h t x u);
-        kept = λ g c. b₁ .kept g (b₀ .kept g c);
+            (want-or g c h t x u);
+        kept = λ f y. b₁ .kept f (b₀ .kept f y);
       }
 
-  pub best-lead : (p q : Part) (h : Bool) (t : List ℕ) (h₁ : Bool) (r : Part) (t₁ : List ℕ)
-      → Leads n (Want n start tv off w need d dear k l m h t) p q → Best n F k d dear q h t h₁ r t₁ → Best n F k d dear p h t h₁ r t₁
-  best-lead p q h t h₁ r t₁ a b =
+  pub gathers-lead : (p q : Part) (g found : List ℕ) (c : ℕ) (h : Bool) (t g₁ found₁ : List ℕ) (c₁ : ℕ) (h₁ : Bool) (t₁ : List ℕ)
+      → Leads n (Want n start tv off w need d dear k l m g c h t) p q → Gathers n F P k d dear q g found c h t g₁ found₁ c₁ h₁ t₁ → Gathers n F P k d dear p g found c h t g₁ found₁ c₁ h₁ t₁
+  gathers-lead p q g found c h t g₁ found₁ c₁ h₁ t₁ a b =
       record {
-        holds = b .holds;
-        least = λ x c u. ⊎-elim (λ y. b .least x (a .narrows .keep x c y) u) (λ y. b .kept (vec n d dear x) y) (want-or h t x u);
+        held = b .held;
+        some = b .some;
+        all = λ x z u. ⊎-elim (λ y. b .all x (a .narrows .keep x z y) u) (λ y. b .kept (vec n d dear x) y) (want-or g c h t x u);
         kept = b .kept;
       }
 
-  -- a leaf that comes before the incumbent takes its place
-  pub best-taken : (q : Part) (h : Bool) (t t₁ : List ℕ) → ((i : ℕ) → i < k → Costs n d dear (i * n)) → q .one < 2 ^ n → Completes n (of q) (of q) → F (of q)
-      → (h ≡ true → less k 0 (vec n d dear (of q)) (at t)) → ((i : ℕ) → i < k → getD t₁ i 0 ≡ vec n d dear (of q) i) → Best n F k d dear q h t true q t₁
-  best-taken q h t t₁ cs fi c u b e =
-      record {
-        holds = record { fit = λ _. u; bits = λ _. c .bits; fits = λ _. fi; value = λ _. e };
-        least = λ x z y. (refl, lex-up k 0 k (vec n d dear x) (at t₁) (omega arith) (λ i j. omega (arith, e i j, cost-up n (of q) d dear (i * n) (cs i j) x z)));
-        kept = λ g y. (refl, λ z. y .1 (lex-trans k 0 g (vec n d dear (of q)) (at t) (lex-same k 0 k g g (at t₁) (vec n d dear (of q)) (omega arith) (λ i j. refl) e z) (b (y .0))));
-      }
+  pub gathers-off : (p q : Part) (g found : List ℕ) (c : ℕ) (have : Bool) (top : List ℕ) → Held P k g found c have top → Cuts n (Want n start tv off w need d dear k l m g c have top) p false q
+      → Gathers n F P k d dear p g found c have top g found c have top
+  gathers-off p q g found c have top h e = gathers-stays p g found c have top h (e .none refl)
 
-  module _ (q : Part) (cs : (i : ℕ) → i < k → Costs n d dear (i * n)) (lb cap : List ℕ) (o : Opened n d dear k q lb cap) where
-    under : (x : ℕ → ℕ) → Completes n (of q) x → (i : ℕ) → i < k → getD lb i 0 ≤ vec n d dear x i
-    under x c i j = omega (arith, o .sure i j, cost-up n (of q) d dear (i * n) (cs i j) x c)
+  -- a complete part, whose vector is f
+  module _ (q : Part) (g found : List ℕ) (c : ℕ) (have : Bool) (top : List ℕ) (held : Held P k g found c have top) where
+    pub leaf-unmet : Tells n (Meets start tv off w need) q false → Gathers n F P k d dear q g found c have top g found c have top
+    leaf-unmet t = gathers-stays q g found c have top held (λ x z u. t .no refl x z (u .meets))
 
-    pub leaf-stale : (have : Bool) (r : Part) (top : List ℕ) → Holds n F k d dear have r top → (Fresh k l m (at lb) → ⊥) → Best n F k d dear q have top have r top
-    leaf-stale have r top h f = best-stays q have r top h (λ x c u. f (λ i z a. u .fresh i z (λ j y. omega (arith, a j y, under x c j y))))
+    module _ (cs : (i : ℕ) → i < k → Costs n d dear (i * n)) (f : ℕ → ℕ) (o : Same k f (vec n d dear (of q))) where
+      under : (x : ℕ → ℕ) → Completes n (of q) x → Within k f (vec n d dear x)
+      under x z i j = omega (arith, o i j, cost-up n (of q) d dear (i * n) (cs i j) x z)
 
-    pub leaf-later : (have : Bool) (r : Part) (top : List ℕ) → Holds n F k d dear have r top → have ≡ true → (less k 0 (at lb) (at top) → ⊥) → Best n F k d dear q have top have r top
-    leaf-later have r top h e f = best-stays q have r top h (λ x c u. f (lex-mono k 0 k (at lb) (vec n d dear x) (at top) (omega arith) (under x c) (u .before′ e)))
+      pub leaf-stale : (Fresh k l m f → ⊥) → Gathers n F P k d dear q g found c have top g found c have top
+      leaf-stale r = gathers-stays q g found c have top held (λ x z u. r (fresh-down k l m f (vec n d dear x) (under x z) (u .sought .0 .1)))
 
-    pub leaf-taken : (have : Bool) (top top′ : List ℕ) → q .one < 2 ^ n → Completes n (of q) (of q) → Meets start tv off w need (of q) → Fresh k l m (at lb)
-        → (have ≡ true → less k 0 (at lb) (at top)) → ((i : ℕ) → i < k → getD top′ i 0 ≡ getD lb i 0) → Best n F k d dear q have top true q top′
-    leaf-taken have top top′ fi c mt f b e =
-        best-taken q have top top′ cs fi c (record { meets = mt; fresh = λ i z a. f i z (λ j y. omega (arith, a j y, o .sure j y)) })
-        (λ h. lex-same k 0 k (at lb) (vec n d dear (of q)) (at top) (at top) (omega arith) (o .sure) (λ i j. refl) (b h)) (λ i j. e i j ∙ o .sure i j)
+      pub leaf-had : (Fresh k g c f → ⊥) → Gathers n F P k d dear q g found c have top g found c have top
+      leaf-had r = gathers-stays q g found c have top held (λ x z u. r (fresh-down k g c f (vec n d dear x) (under x z) (u .sought .1)))
 
-  pub leaf-unmet : (q : Part) (have : Bool) (r : Part) (top : List ℕ) → Holds n F k d dear have r top → Tells n (Meets start tv off w need) q false → Best n F k d dear q have top have r top
-  leaf-unmet q have r top h t = best-stays q have r top h (λ x c u. t .no refl x c (u .meets))
+      pub leaf-past : have ≡ true → (less k 0 f (at top) → ⊥) → Gathers n F P k d dear q g found c have top g found c have top
+      leaf-past e r = gathers-stays q g found c have top held (λ x z u. r (lex-mono k 0 k f (vec n d dear x) (at top) (omega arith) (under x z) (u .sought .0 .0 e)))
 
-  pub search-off : (p : Part) (have : Bool) (q r : Part) (top : List ℕ) → Holds n F k d dear have r top → Cuts n (Want n start tv off w need d dear k l m have top) p false q → Best n F k d dear p have top have r top
-  search-off p have q r top h c = best-stays p have r top h (c .none refl)
+      leaf-found : Table n start tv off w need → q .one < 2 ^ n → Completes n (of q) (of q) → Meets start tv off w need (of q) → Fresh k l m f → P f (q .one)
+      leaf-found t fi z mt fr =
+          let y = number-completes n (of q) q z in
+          record {
+            known = record {
+              fits = fi;
+              meets = λ h u. omega (arith, reach-up n start tv off w need t (bit (q .one)) (of q) (y .1) h u, mt h u);
+              value = λ i j. omega (arith, o i j, cost-up n (of q) d dear (i * n) (cs i j) (bit (q .one)) (y .0), cost-up n (bit (q .one)) d dear (i * n) (cs i j) (of q) (y .1));
+            };
+            fresh = fr;
+          }
 
-pub sizes-same : (n k m : ℕ) (d dear l top lb cap res top′ lb′ cap′ res′ : List ℕ) → Sizes n k m d dear l top lb cap res
-    → length top′ ≡ length top → length lb′ ≡ length lb → length cap′ ≡ length cap → length res′ ≡ length res → Sizes n k m d dear l top′ lb′ cap′ res′
-sizes-same n k m d dear l top lb cap res top′ lb′ cap′ res′ s et el ec er =
-    record { costs = s .costs; listed = s .listed; tops = omega (arith, s .tops); lbs = omega (arith, s .lbs); caps = omega (arith, s .caps); ress = omega (arith, s .ress) }
+      pub leaf-kept : (g′ found′ : List ℕ) (c′ : ℕ) (have′ : Bool) (top′ : List ℕ) → Table n start tv off w need → q .one < 2 ^ n → Completes n (of q) (of q) → Meets start tv off w need (of q)
+          → Fresh k l m f → Keeps k f (q .one) g found c have top g′ found′ c′ have′ top′ → Gathers n F P k d dear q g found c have top g′ found′ c′ have′ top′
+      leaf-kept g′ found′ c′ have′ top′ t fi z mt fr kp =
+          record {
+            held = record {
+              room = kp .room;
+              each = λ u y.
+                  ⊎-elim (λ e. found-same n start tv off w need d dear k l m _ f _ (q .one) (e .0) (e .1) (leaf-found t fi z mt fr))
+                  (λ e. found-same n start tv off w need d dear k l m _ _ _ _ (e .vector) (e .number) (held .each (e .place) (e .inside))) (kp .came u y);
+              limited = kp .limited;
+            };
+            some = kp .some;
+            all = λ x y u. kp .new (vec n d dear x) (under x y);
+            kept = kp .kept;
+          }
+
+-- ---- Sizes
+
+pub room-same : (n k m : ℕ) (d dear l g found top lb g′ found′ top′ lb′ : List ℕ) → Room n k m d dear l g found top lb
+    → length g′ ≡ length g → length found′ ≡ length found → length top′ ≡ length top → length lb′ ≡ length lb → Room n k m d dear l g′ found′ top′ lb′
+room-same n k m d dear l g found top lb g′ found′ top′ lb′ s eg ef et el =
+    record {
+      costs = s .costs;
+      listed = s .listed;
+      stocks = rw ef (rw eg (s .stocks));
+      some = omega (arith, s .some);
+      tops = omega (arith, s .tops);
+      lbs = omega (arith, s .lbs);
+    }
+
+pub sizes-same : (n k m : ℕ) (d dear l g found top lb cap res g′ found′ top′ lb′ cap′ res′ : List ℕ) → Sizes n k m d dear l g found top lb cap res
+    → length g′ ≡ length g → length found′ ≡ length found → length top′ ≡ length top → length lb′ ≡ length lb → length cap′ ≡ length cap → length res′ ≡ length res
+    → Sizes n k m d dear l g′ found′ top′ lb′ cap′ res′
+sizes-same n k m d dear l g found top lb cap res g′ found′ top′ lb′ cap′ res′ s eg ef et el ec er =
+    record { room = room-same n k m d dear l g found top lb g′ found′ top′ lb′ (s .room) eg ef et el; caps = omega (arith, s .caps); ress = omega (arith, s .ress) }

@@ -1,2 +1,3 @@
--- Read Least, after the crate capping's Caps.
-pub mod Least
+-- Read Stocks, then Gathers, after the crate capping's Caps.
+pub mod Stocks
+pub mod Gathers

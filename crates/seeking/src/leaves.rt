@@ -1,18 +1,17 @@
-// A complete part against the incumbent.
-use crate::vectors::copy;
+// A complete part against the stock.
+use crate::stocks::Stock;
+use crate::stocks::keep;
 use crate::vectors::earlier_if;
 use crate::vectors::fresh;
-use crate::vectors::widen;
-use narrowing::Cut;
+use crate::vectors::price;
 use narrowing::Part;
 ghost use mathlib.Core.Bool.{true};
-ghost use Prim.Native.Nat.{ℕ, _-_, _*_, _<_, _≤_};
-ghost use lib.ListN.{length};
-ghost use Rattle.charging.specs.Rows.{Table, Completes, Costs};
+ghost use Prim.Native.Nat.{_-_, _*_};
+ghost use Rattle.charging.specs.Rows.{Table, Completes};
 ghost use Rattle.narrowing.specs.Parts.{of, Good};
-ghost use Rattle.seeking.specs.Least.{Fit, Holds, Best};
+ghost use Rattle.seeking.specs.Gathers.{Fit, Found, Held, Gathers, Room};
 
-// A complete q takes the incumbent's place, if it is fit and comes before it.
+// A complete q is gathered, if it is fit and not accounted for.
 pub fn leaf(
     n: usize,
     start: &[usize],
@@ -25,27 +24,31 @@ pub fn leaf(
     k: usize,
     l: &[u64],
     m: usize,
-    lb: &mut [u64],
-    cap: &mut [u64],
+    g: &mut [u64],
+    found: &mut [u64],
     top: &mut [u64],
+    lb: &mut [u64],
     q: Part,
-    inc: Cut,
-) -> Cut
-    requires table { ⌜ Table n (now start) (now tv) (now off) (now w) (now need) × ((i : ℕ) → i < k → Costs n (now d) (now dear) (i * n)) × (m * k ≤ length (now l)) × (k ≤ length (now top)) × (k ≤ length (now lb)) × (k ≤ length (now cap)) × Completes n (of q) (of q) × Good n q ⌝ }
-    requires holds { ⌜ Holds n (Fit n (now start) (now tv) (now off) (now w) (now need) (now d) (now dear) k (now l) m) k (now d) (now dear) (inc .ok) (inc .part) (now top) ⌝ }
-    ensures { λ r. ⌜ Best n (Fit n (now (start .entry)) (now (tv .entry)) (now (off .entry)) (now (w .entry)) (now (need .entry)) (now (d .entry)) (now (dear .entry)) k (now (l .entry)) m) k (now (d .entry)) (now (dear .entry)) q (inc .ok) (now (top .entry)) (r .ok) (r .part) (now (top .exit)) ⌝ }
+    stock: Stock,
+) -> Stock
+    requires table { ⌜ Table n (now start) (now tv) (now off) (now w) (now need) × Room n k m (now d) (now dear) (now l) (now g) (now found) (now top) (now lb) × Completes n (of q) (of q) × Good n q ⌝ }
+    requires held { ⌜ Held (Found n (now start) (now tv) (now off) (now w) (now need) (now d) (now dear) k (now l) m) k (now g) (now found) (stock .count) (stock .cut) (now top) ⌝ }
+    ensures { λ r. ⌜ Gathers n (Fit n (now (start .entry)) (now (tv .entry)) (now (off .entry)) (now (w .entry)) (now (need .entry)) (now (d .entry)) (now (dear .entry)) k (now (l .entry)) m) (Found n (now (start .entry)) (now (tv .entry)) (now (off .entry)) (now (w .entry)) (now (need .entry)) (now (d .entry)) (now (dear .entry)) k (now (l .entry)) m) k (now (d .entry)) (now (dear .entry)) q (now (g .entry)) (now (found .entry)) (stock .count) (stock .cut) (now (top .entry)) (now (g .exit)) (now (found .exit)) (r .count) (r .cut) (now (top .exit)) ⌝ }
 {
     if !finding::met(n, start, tv, off, w, need, q) {
-        return inc;
+        return stock;
     }
-    widen(n, d, dear, k, q, lb, cap);
+    price(n, d, dear, k, q, lb);
     if !fresh(k, &*lb, l, m) {
-        return inc;
+        return stock;
     }
-    let have = inc.ok;
-    if !earlier_if(have, k, &*lb, &*top) {
-        return inc;
+    let count = stock.count;
+    if !fresh(k, &*lb, &*g, count) {
+        return stock;
     }
-    copy(k, &*lb, top);
-    Cut { ok: true, part: q }
+    let cut = stock.cut;
+    if !earlier_if(cut, k, &*lb, &*top) {
+        return stock;
+    }
+    keep(k, &*lb, q.one, g, found, top, stock)
 }

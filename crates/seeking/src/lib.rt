@@ -1,26 +1,44 @@
-// Seeking the least vector, first objective first, among those of assignments that meet the rows and are weakly dominated by no listed point.
+// Gathering: points of the front, many from one tree, over normal tables.
 //
-// search(.., p, inc)    the least of the incumbent and of what is fit below p, by a recursion over the unset variables
-// reduce(.., p)         R1 to R6 to a fixpoint: sets what is forced, or finds that nothing is wanted below p
+// search(.., p, stock)    gathers what is fit below p, by a recursion over the unset variables
+// reduce(.., p)           R1 to R6 to a fixpoint: sets what is forced, or finds that nothing is wanted below p
+// least, drop_point       the first gathered point in the order of vectors; taking one out
 //
-// Each pruning rule enters by the contract of `reduce` alone. Read specs/Least.antt; proofs/SeekLaws.antt has the argument.
+// A stock holds gathered points in lent runs. Where there is no room for one more, the greatest is left out and is a limit from then on: what
+// does not come before it is not sought. Each pruning rule enters by the contract of `reduce` alone.
+// Read specs/Stocks.antt and specs/Gathers.antt; proofs/StockLaws.antt and proofs/SeekLaws.antt have the argument.
 mod leaves;
+mod stocks;
 mod vectors;
 
 pub use leaves::leaf;
 use narrowing::Cut;
 use narrowing::Part;
-pub use vectors::copy;
+pub use stocks::Stock;
+pub use stocks::cut_last;
+pub use stocks::drop_point;
+pub use stocks::earlier_of;
+pub use stocks::greatest;
+pub use stocks::keep;
+pub use stocks::later_of;
+pub use stocks::least;
+pub use stocks::place;
+pub use stocks::worse;
 pub use vectors::earlier;
+pub use vectors::earlier_at;
 pub use vectors::earlier_if;
 pub use vectors::free;
 pub use vectors::fresh;
-pub use vectors::widen;
+pub use vectors::load;
+pub use vectors::price;
+pub use vectors::store;
+pub use vectors::within;
 ghost use mathlib.Core.Bool.{false};
-ghost use Prim.Native.Nat.{_-_, _*_};
-ghost use Rattle.charging.specs.Rows.{Table};
+ghost use Prim.Native.Nat.{ℕ, _-_, _*_, _<_, _≤_};
+ghost use lib.ListN.{length};
+ghost use Rattle.charging.specs.Rows.{Table, Costs};
 ghost use Rattle.narrowing.specs.Parts.{Good, Cuts};
-ghost use Rattle.seeking.specs.Least.{Want, Fit, Holds, Best, Sizes};
+ghost use Rattle.seeking.specs.Gathers.{Want, Fit, Found, Held, Gathers, Sizes};
 
 // Rows, caps and charges, until nothing more is forced.
 pub fn reduce(
@@ -35,16 +53,19 @@ pub fn reduce(
     k: usize,
     l: &[u64],
     m: usize,
-    have: bool,
+    g: &[u64],
+    stock: Stock,
     top: &[u64],
     res: &mut [u64],
     lb: &mut [u64],
     cap: &mut [u64],
     p: Part,
 ) -> Cut
-    requires { ⌜ Table n (now start) (now tv) (now off) (now w) (now need) × Sizes n k m (now d) (now dear) (now l) (now top) (now lb) (now cap) (now res) × Good n p ⌝ }
-    ensures { λ r. ⌜ Cuts n (Want n (now (start .entry)) (now (tv .entry)) (now (off .entry)) (now (w .entry)) (now (need .entry)) (now (d .entry)) (now (dear .entry)) k (now (l .entry)) m have (now (top .entry))) p (r .ok) (r .part) ⌝ }
+    requires { ⌜ Table n (now start) (now tv) (now off) (now w) (now need) × ((i : ℕ) → i < k → Costs n (now d) (now dear) (i * n)) × (m * k ≤ length (now l)) × (stock .count * k ≤ length (now g)) × (k ≤ length (now top)) × (k ≤ length (now lb)) × (k ≤ length (now cap)) × (n ≤ length (now res)) × Good n p ⌝ }
+    ensures { λ r. ⌜ Cuts n (Want n (now (start .entry)) (now (tv .entry)) (now (off .entry)) (now (w .entry)) (now (need .entry)) (now (d .entry)) (now (dear .entry)) k (now (l .entry)) m (now (g .entry)) (stock .count) (stock .cut) (now (top .entry))) p (r .ok) (r .part) ⌝ }
 {
+    let count = stock.count;
+    let cut = stock.cut;
     let mut q = p;
     loop {
         let before = q.left;
@@ -66,7 +87,9 @@ pub fn reduce(
             k,
             l,
             m,
-            have,
+            g,
+            count,
+            cut,
             top,
             s,
             res,
@@ -89,7 +112,7 @@ pub fn reduce(
     }
 }
 
-// The least of the incumbent and of what is fit below p. `top` is the incumbent's vector.
+// Gathers what is fit below p.
 pub fn search(
     n: usize,
     start: &[usize],
@@ -106,15 +129,16 @@ pub fn search(
     res: &mut [u64],
     lb: &mut [u64],
     cap: &mut [u64],
+    g: &mut [u64],
+    found: &mut [u64],
     top: &mut [u64],
     p: Part,
-    inc: Cut,
-) -> Cut
-    requires table { ⌜ Table n (now start) (now tv) (now off) (now w) (now need) × Sizes n k m (now d) (now dear) (now l) (now top) (now lb) (now cap) (now res) × Good n p ⌝ }
-    requires holds { ⌜ Holds n (Fit n (now start) (now tv) (now off) (now w) (now need) (now d) (now dear) k (now l) m) k (now d) (now dear) (inc .ok) (inc .part) (now top) ⌝ }
-    ensures { λ r. ⌜ Best n (Fit n (now (start .entry)) (now (tv .entry)) (now (off .entry)) (now (w .entry)) (now (need .entry)) (now (d .entry)) (now (dear .entry)) k (now (l .entry)) m) k (now (d .entry)) (now (dear .entry)) p (inc .ok) (now (top .entry)) (r .ok) (r .part) (now (top .exit)) ⌝ }
+    stock: Stock,
+) -> Stock
+    requires table { ⌜ Table n (now start) (now tv) (now off) (now w) (now need) × Sizes n k m (now d) (now dear) (now l) (now g) (now found) (now top) (now lb) (now cap) (now res) × Good n p ⌝ }
+    requires held { ⌜ Held (Found n (now start) (now tv) (now off) (now w) (now need) (now d) (now dear) k (now l) m) k (now g) (now found) (stock .count) (stock .cut) (now top) ⌝ }
+    ensures { λ r. ⌜ Gathers n (Fit n (now (start .entry)) (now (tv .entry)) (now (off .entry)) (now (w .entry)) (now (need .entry)) (now (d .entry)) (now (dear .entry)) k (now (l .entry)) m) (Found n (now (start .entry)) (now (tv .entry)) (now (off .entry)) (now (w .entry)) (now (need .entry)) (now (d .entry)) (now (dear .entry)) k (now (l .entry)) m) k (now (d .entry)) (now (dear .entry)) p (now (g .entry)) (now (found .entry)) (stock .count) (stock .cut) (now (top .entry)) (now (g .exit)) (now (found .exit)) (r .count) (r .cut) (now (top .exit)) ⌝ }
 {
-    let have = inc.ok;
     let c = reduce(
         n,
         start,
@@ -127,7 +151,8 @@ pub fn search(
         k,
         l,
         m,
-        have,
+        &*g,
+        stock,
         &*top,
         res,
         lb,
@@ -136,7 +161,7 @@ pub fn search(
     );
     let ok = c.ok;
     if !ok {
-        return inc;
+        return stock;
     }
     let q = c.part;
     let v = finding::branch(n, order, q);
@@ -153,11 +178,12 @@ pub fn search(
             k,
             l,
             m,
-            lb,
-            cap,
+            g,
+            found,
             top,
+            lb,
             q,
-            inc,
+            stock,
         );
     }
     let b = finding::cheaper(n, d, dear, k, v);
@@ -177,9 +203,11 @@ pub fn search(
         res,
         lb,
         cap,
+        g,
+        found,
         top,
         narrowing::put(n, q, v, b),
-        inc,
+        stock,
     );
     search(
         n,
@@ -197,6 +225,8 @@ pub fn search(
         res,
         lb,
         cap,
+        g,
+        found,
         top,
         narrowing::put(n, q, v, 1 - b),
         first,

@@ -1,18 +1,14 @@
--- The search from nothing set leaves the least vector; the smallest assignment within it has exactly that vector (next-some).
+-- The chosen point has the least vector; the smallest assignment within it has exactly that vector (next-some).
 use native.Mathlib.Omega.{arith}
-use Prim.Native.Nat.{_-_}
-use borrow.Author.Tests.{not-true, not-false}
-use Rattle.seeking.specs.Least.{Fit}
-use Rattle.advancing.proofs.NextLaws.{holds-none, next-none, next-wanted, next-some}
+use Prim.Native.Nat.{_≤_}
+use Rattle.charging.specs.Rows.{left}
+use Rattle.advancing.proofs.NextLaws.{next-none, next-wanted, next-some}
 use borrow.Author.Needs.{needs}
 use Rattle.advancing.proofs.next_point.Statement.{statement}
 use Rattle.advancing.proofs.next_point.Tie as tie
 
-blank-requires : tie.Need-blank-requires
-blank-requires c κs = search needs
-
-search-requires : tie.Need-search-requires
-search-requires c κs = let s = c .before .before .before .before .before .before .before .before .before .before .before .before .before .before .before .before .before .before in let a = s .args in let t = s .pre .0 in let z = s .pre .1 in let b = c .before .before .before .before .blank .ensures in ((t, z, b .0), holds-none (a .n) (Fit (a .n) (a .start .now) (a .tv .now) (a .off .now) (a .w .now) (a .need .now) (a .d .now) (a .dear .now) (a .k) (a .l .now) (a .m)) (a .k) (a .d .now) (a .dear .now) _ (a .top .now))
+choose-requires : tie.Need-choose-requires
+choose-requires c κs = search needs
 
 same-length : tie.Need-same-length
 same-length c = search needs
@@ -26,12 +22,6 @@ same-length-3 c = search needs
 same-length-4 : tie.Need-same-length-4
 same-length-4 c = search needs
 
-returns : tie.Need-returns
-returns c = let s = c .before .before .before .before .before .before .before .before .before .before .before .before .before .before .before .before .before .before .before .before .before .before .before .before .before .before .before .before in let a = s .args in let t = s .pre .0 in let z = s .pre .1 in let b = c .before .before .before .before .before .before .before .before .before .before .before .before .before .before .blank .ensures in let g = c .before .before .before .before .before .before .before .before .before .search .ensures in let q = c .before .before .before .before .before .before .before .before .before .search .result .part in next-none (a .n) (a .start .now) (a .tv .now) (a .off .now) (a .w .now) (a .need .now) (a .d .now) (a .dear .now) (a .k) (a .l .now) (a .m) (c .before .before .before .before .before .before .before .before .before .before .before .before .before .before .blank .result) (b .1) (a .top .now) _ q 0 (rw (not-true (c .before .before .before .before .before .before .before .before .before .search .result .ok) (c .if1 .taken)) at g)
-
-smallest-requires : tie.Need-smallest-requires
-smallest-requires c κs = let s = c .before .before .before .before .before .before .before .before .before .before .before .before .before .before .before .before .before .before .before .before .before .before .before .before .before .before .before .before .before .before in let a = s .args in let t = s .pre .0 in let z = s .pre .1 in let b = c .before .before .before .before .before .before .before .before .before .before .before .before .before .before .before .before .blank .ensures in let g = c .before .before .before .before .before .before .before .before .before .before .before .search .ensures in let q = c .before .before .before .before .before .before .before .before .before .before .before .search .result .part in let k1 = c .before .before .before .before .before .before .before .before .before .before .before .search .kept .1 .1 .1 .1 .1 .1 .1 .1 .1 .1 .1 .1 .0 in let k4 = c .before .before .before .before .before .before .before .before .before .before .before .search .kept .1 .1 .1 .1 .1 .1 .1 .1 .1 .1 .1 .1 .1 .1 .1 .0 in let e = not-false (c .before .before .before .before .before .before .before .before .before .before .before .search .result .ok) (c .before .before .if1 .left) in (t, record { each = z .costs; room = omega (arith, k4, z .tops) }, omega (arith, k1, z .ress), next-wanted (a .n) (a .start .now) (a .tv .now) (a .off .now) (a .w .now) (a .need .now) (a .d .now) (a .dear .now) (a .k) (a .l .now) (a .m) (c .before .before .before .before .before .before .before .before .before .before .before .before .before .before .before .before .blank .result) (b .1) (a .top .now) _ q (rw e at g) t (z .costs) (omega (arith, k4, z .tops)), g .holds .fits e)
-
 same-length-5 : tie.Need-same-length-5
 same-length-5 c = search needs
 
@@ -41,26 +31,63 @@ same-length-6 c = search needs
 same-length-7 : tie.Need-same-length-7
 same-length-7 c = search needs
 
+returns : tie.Need-returns
+returns c = let s = c .before .before .before .before .before .before .before .before .before .before .before .before .before .before .before .before .before .before .before .before .before .before .before .before .before .before .before .before .before .before .before .before .before .before .before .before .before .before .before .before in let a = s .args in let t = s .pre .0 .0 in let z = s .pre .0 .1 in let r = c .before .before .before .before .before .before .before .before .before .before .before .before .before .before .before .before .choose .ensures in (next-none (a .n) (a .start .now) (a .tv .now) (a .off .now) (a .w .now) (a .need .now) (a .d .now) (a .dear .now) (a .k) (a .l .now) (a .m) _ _ (c .before .before .before .before .before .before .before .before .before .before .before .before .before .before .before .before .choose .result .stock .count) (c .before .before .before .before .before .before .before .before .before .before .before .before .before .before .before .before .choose .result .stock .cut) _ (c .before .before .before .before .before .before .before .before .before .before .before .before .before .before .before .before .choose .result .place) _ r (c .if1 .taken), r .stocked)
+
+mul-known : tie.Need-mul-known
+mul-known c = let s = c .before .before .before .before .before .before .before .before .before .before .before .before .before .before .before .before .before .before .before .before .before .before .before .before .before .before .before .before .before .before .before .before .before .before .before .before .before .before .before .before in let a = s .args in let t = s .pre .0 .0 in let z = s .pre .0 .1 in let r = c .before .before .before .before .before .before .before .before .before .before .before .before .before .before .before .before .choose .ensures in let some : 1 ≤ c .before .before .before .before .before .before .before .before .before .before .before .before .before .before .before .before .choose .result .stock .count = omega (arith, c .if1 .left) in let q = r .chosen .inside some in let v = r .stocked .held .room in let kn = s .good .1 .1 .1 .1 .1 .1 .1 .1 .1 .1 .1 .1 .1 .1 .1 .1 .0 .1 in let kf = c .before .before .before .before .before .before .before .before .before .before .before .before .before .before .before .before .choose .kept .1 .1 .1 .1 .1 .1 .1 .1 .1 .1 .1 .1 .1 .1 .1 .1 .0 in omega (arith, q, v, kn, kf)
+
+slice-read-known : tie.Need-slice-read-known
+slice-read-known c = let s = c .before .before .before .before .before .before .before .before .before .before .before .before .before .before .before .before .before .before .before .before .before .before .before .before .before .before .before .before .before .before .before .before .before .before .before .before .before .before .before .before .before in let a = s .args in let t = s .pre .0 .0 in let z = s .pre .0 .1 in let r = c .before .before .before .before .before .before .before .before .before .before .before .before .before .before .before .before .before .choose .ensures in let some : 1 ≤ c .before .before .before .before .before .before .before .before .before .before .before .before .before .before .before .before .before .choose .result .stock .count = omega (arith, c .before .if1 .left) in let q = r .chosen .inside some in let v = r .stocked .held .room in omega (arith, q, v)
+
+smallest-requires : tie.Need-smallest-requires
+smallest-requires c κs = let s = c .before .before .before .before .before .before .before .before .before .before .before .before .before .before .before .before .before .before .before .before .before .before .before .before .before .before .before .before .before .before .before .before .before .before .before .before .before .before .before .before .before .before .before in let a = s .args in let t = s .pre .0 .0 in let z = s .pre .0 .1 in let r = c .before .before .before .before .before .before .before .before .before .before .before .before .before .before .before .before .before .before .before .choose .ensures in let some : 1 ≤ c .before .before .before .before .before .before .before .before .before .before .before .before .before .before .before .before .before .before .before .choose .result .stock .count = omega (arith, c .before .before .before .if1 .left) in let kr = c .before .before .before .before .before .before .before .before .before .before .before .before .before .before .before .before .before .before .before .choose .kept .1 .1 .1 .1 .1 .1 .1 .1 .1 .1 .1 .1 .0 in let kc = c .before .before .before .before .before .before .before .before .before .before .before .before .before .before .before .before .before .before .before .choose .kept .1 .1 .1 .1 .1 .1 .1 .1 .1 .1 .1 .1 .1 .1 .1 .1 .1 .1 .0 in (t, record { each = z .room .costs; room = omega (arith, kc, s .pre .0 .2) }, omega (arith, kr, z .ress), next-wanted (a .n) (a .start .now) (a .tv .now) (a .off .now) (a .w .now) (a .need .now) (a .d .now) (a .dear .now) (a .k) (a .l .now) (a .m) _ _ (c .before .before .before .before .before .before .before .before .before .before .before .before .before .before .before .before .before .before .before .choose .result .stock .count) (c .before .before .before .before .before .before .before .before .before .before .before .before .before .before .before .before .before .before .before .choose .result .stock .cut) _ (c .before .before .before .before .before .before .before .before .before .before .before .before .before .before .before .before .before .before .before .choose .result .place) _ r some, r .stocked .held .each (c .before .before .before .before .before .before .before .before .before .before .before .before .before .before .before .before .before .before .before .choose .result .place) (r .chosen .inside some) .fits)
+
 same-length-8 : tie.Need-same-length-8
 same-length-8 c = search needs
 
+same-length-9 : tie.Need-same-length-9
+same-length-9 c = search needs
+
+same-length-10 : tie.Need-same-length-10
+same-length-10 c = search needs
+
+same-length-11 : tie.Need-same-length-11
+same-length-11 c = search needs
+
+same-length-12 : tie.Need-same-length-12
+same-length-12 c = search needs
+
+same-length-13 : tie.Need-same-length-13
+same-length-13 c = search needs
+
+same-length-14 : tie.Need-same-length-14
+same-length-14 c = search needs
+
 returns-2 : tie.Need-returns-2
-returns-2 c = let s = c .before .before .before .before .before .before .before .before .before .before .before .before .before .before .before .before .before .before .before .before .before .before .before .before .before .before .before .before .before .before .before .before .before in let a = s .args in let t = s .pre .0 in let z = s .pre .1 in let b = c .before .before .before .before .before .before .before .before .before .before .before .before .before .before .before .before .before .before .before .blank .ensures in let g = c .before .before .before .before .before .before .before .before .before .before .before .before .before .before .search .ensures in let q = c .before .before .before .before .before .before .before .before .before .before .before .before .before .before .search .result .part in let k1 = c .before .before .before .before .before .before .before .before .before .before .before .before .before .before .search .kept .1 .1 .1 .1 .1 .1 .1 .1 .1 .1 .1 .1 .0 in let k4 = c .before .before .before .before .before .before .before .before .before .before .before .before .before .before .search .kept .1 .1 .1 .1 .1 .1 .1 .1 .1 .1 .1 .1 .1 .1 .1 .0 in let e = not-false (c .before .before .before .before .before .before .before .before .before .before .before .before .before .before .search .result .ok) (c .before .before .before .before .before .if1 .left) in next-some (a .n) (a .start .now) (a .tv .now) (a .off .now) (a .w .now) (a .need .now) (a .d .now) (a .dear .now) (a .k) (a .l .now) (a .m) (c .before .before .before .before .before .before .before .before .before .before .before .before .before .before .before .before .before .before .before .blank .result) (b .1) (a .top .now) _ q (rw e at g) t (z .costs) (omega (arith, k4, z .tops)) (c .before .before .smallest .result) (c .before .before .smallest .ensures)
+returns-2 c = let s = c .before .before .before .before .before .before .before .before .before .before .before .before .before .before .before .before .before .before .before .before .before .before .before .before .before .before .before .before .before .before .before .before .before .before .before .before .before .before .before .before .before .before .before .before .before .before in let a = s .args in let t = s .pre .0 .0 in let z = s .pre .0 .1 in let r = c .before .before .before .before .before .before .before .before .before .before .before .before .before .before .before .before .before .before .before .before .before .before .choose .ensures in let some : 1 ≤ c .before .before .before .before .before .before .before .before .before .before .before .before .before .before .before .before .before .before .before .before .before .before .choose .result .stock .count = omega (arith, c .before .before .before .before .before .before .if1 .left) in (next-some (a .n) (a .start .now) (a .tv .now) (a .off .now) (a .w .now) (a .need .now) (a .d .now) (a .dear .now) (a .k) (a .l .now) (a .m) _ _ (c .before .before .before .before .before .before .before .before .before .before .before .before .before .before .before .before .before .before .before .before .before .before .choose .result .stock .count) (c .before .before .before .before .before .before .before .before .before .before .before .before .before .before .before .before .before .before .before .before .before .before .choose .result .stock .cut) _ (c .before .before .before .before .before .before .before .before .before .before .before .before .before .before .before .before .before .before .before .before .before .before .choose .result .place) _ r some (c .before .before .smallest .result) (c .before .before .smallest .ensures), r .stocked)
 
 pub next-point-spec : {M : Type 1} → statement M
 next-point-spec =
     tie.close
     (tie.spec
-    blank-requires
-    search-requires
+    choose-requires
     same-length
     same-length-2
     same-length-3
     same-length-4
-    returns
-    smallest-requires
     same-length-5
     same-length-6
     same-length-7
+    returns
+    mul-known
+    slice-read-known
+    smallest-requires
     same-length-8
+    same-length-9
+    same-length-10
+    same-length-11
+    same-length-12
+    same-length-13
+    same-length-14
     returns-2)

@@ -1,4 +1,4 @@
--- What comes before the incumbent is at most it in each place as long as the bound is equal to it; where the bound is below, the rest is free; where above, nothing comes before.
+-- What comes before the limit is at most it in each place as long as the bound is equal to it; where the bound is below, the rest is free; where above, nothing comes before.
 -- Invariant: Ahead j. Measure: k - j.
 use borrow.Author.Needs.{needs}
 use native.Mathlib.Omega.{arith}

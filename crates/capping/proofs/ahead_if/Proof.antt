@@ -1,4 +1,4 @@
--- As ahead where there is an incumbent; else nothing is asked.
+-- As ahead where there is a limit; else nothing is asked.
 use mathlib.Core.Path.{_≡_}
 use mathlib.Core.Bool.{true}
 use Prim.Native.Nat.{ℕ, _-_}

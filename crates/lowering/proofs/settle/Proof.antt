@@ -6,7 +6,8 @@ use Rattle.charging.specs.Rows.{bit}
 use Rattle.charging.proofs.BitLaws.{bit-word, bit-two}
 use Rattle.narrowing.specs.Parts.{of}
 use Rattle.forcing.specs.Goals.{Wanted}
-use Rattle.lowering.proofs.LowerLaws.{wanted-down, number-completes, lowered-off, lowered-found, lowered-on}
+use Rattle.finding.proofs.FindLaws.{number-completes}
+use Rattle.lowering.proofs.LowerLaws.{wanted-down, lowered-off, lowered-found, lowered-on}
 use borrow.Author.Needs.{needs}
 use Rattle.lowering.proofs.settle.Statement.{statement}
 use Rattle.lowering.proofs.settle.Tie as tie

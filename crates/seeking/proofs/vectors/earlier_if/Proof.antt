@@ -1,7 +1,5 @@
--- As earlier where there is an incumbent; else anything is earlier.
+-- As earlier where there is a limit; else anything is earlier.
 use mathlib.Core.Path.{sym, _∙_}
-use Prim.Native.Nat.{_-_}
-use Rattle.charging.specs.Rows.{left}
 use Rattle.capping.proofs.OrderLaws.{no}
 use borrow.Author.Needs.{needs}
 use Rattle.seeking.proofs.vectors.earlier_if.Statement.{statement}
