@@ -12,7 +12,7 @@ use Rattle.charging.specs.Rows.{bit}
 use Rattle.capping.specs.Caps.{vec, at}
 use Rattle.capping.specs.Caps.{Fresh as Unbeaten}
 use Rattle.capping.proofs.OrderLaws.{lex-same}
-use Rattle.seeking.specs.Least.{Fit}
+use Rattle.seeking.specs.Gathers.{Fit}
 use Rattle.advancing.specs.Next.{Next}
 use Rattle.instance.specs.Meaning.{Instance, meaning, vector}
 use Rattle.judge.specs.Judging.{padded}

@@ -5,6 +5,7 @@ use advancing::next_point;
 use instance::Instance;
 use instance::Term;
 use points::Point;
+use seeking::Stock;
 ghost use Prim.Native.Nat.{_*_, _≤_};
 ghost use lib.ListN.{length};
 ghost use Rattle.points.specs.Limits.{maxPoints};
@@ -17,9 +18,14 @@ pub struct Outcome {
     pub points: usize,
 }
 
-// The costs of the points listed so far, and what the search works in.
+// The room that the search works in.
 impl Outcome {
-    pub const LISTED: usize = 4096;
+    // Costs of the points listed.
+    pub const LISTED: usize = Point::MAX_POINTS as usize * Point::VALUES;
+    // Points that one tree gathers: one more than a list has, so that a front that fits needs one tree.
+    pub const GATHERED: usize = Point::MAX_POINTS as usize + 1;
+    // Their costs.
+    pub const COSTS: usize = Outcome::GATHERED * Point::VALUES;
 }
 
 // Lists the points of the front of an instance by its normal tables: as many as there is room for.
@@ -44,11 +50,18 @@ pub fn list_points(
     requires { ⌜ (room ≤ maxPoints) × (room * 4 ≤ length (now values)) × (room ≤ length (now models)) ⌝ }
     ensures { λ r. ⌜ Lists (now (terms .entry)) (now (rows .entry)) room (now (values .entry)) (now (models .entry)) (now (values .exit)) (now (models .exit)) (r .all) (r .points) ⌝ }
 {
-    let mut listed = [0u64; 4096];
+    let mut listed = [0u64; Outcome::LISTED];
+    let mut gathered = [0u64; Outcome::COSTS];
+    let mut found = [0u64; Outcome::GATHERED];
     let mut left = [0u64; Term::MAX_VARIABLE as usize];
     let mut lows = [0u64; Instance::MAX_OBJECTIVES];
     let mut caps = [0u64; Instance::MAX_OBJECTIVES];
+    let mut limit = [0u64; Instance::MAX_OBJECTIVES];
     let mut costs = [0u64; Instance::MAX_OBJECTIVES];
+    let mut stock = Stock {
+        count: 0,
+        cut: true,
+    };
     let mut m: usize = 0;
     loop {
         let next = next_point(
@@ -67,7 +80,11 @@ pub fn list_points(
             &mut left,
             &mut lows,
             &mut caps,
+            &mut gathered,
+            &mut found,
+            &mut limit,
             &mut costs,
+            stock,
         );
         let more = next.ok;
         if !more {
@@ -85,6 +102,7 @@ pub fn list_points(
         let a = next.number;
         put_point(terms, rows, a, m, values, models);
         put_costs(k, &costs, m * k, &mut listed);
+        stock = next.stock;
         m += 1;
     }
 }
