@@ -19,7 +19,7 @@ pub use sides::missed;
 pub use sides::owe;
 pub use sides::paid;
 pub use sides::spared;
-pub use terms::cover;
+pub use terms::covered;
 pub use terms::least;
 pub use terms::pay;
 pub use terms::reach;
@@ -75,12 +75,13 @@ pub fn charge_row(
 {
     let a = start[h];
     let many = start[h + 1] - a;
-    if cover(n, tv, off, w, set, one, dear, o, &*res, a, many) < need[h] {
-        let m = least(n, tv, off, w, dear, o, &*res, a, many);
-        pay(n, tv, off, w, dear, o, res, a, many, m);
-        return m;
+    let t = need[h];
+    if covered(n, tv, off, w, set, one, dear, o, &*res, a, many, t) {
+        return 0;
     }
-    0
+    let m = least(n, tv, off, w, dear, o, &*res, a, many);
+    pay(n, tv, off, w, dear, o, res, a, many, m);
+    m
 }
 
 // A lower bound of the cost of every completion that meets the rows, and what is left to charge.

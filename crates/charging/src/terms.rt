@@ -5,6 +5,7 @@ use crate::sides::missed;
 use crate::sides::paid;
 use crate::sides::spared;
 ghost use mathlib.Core.Path.{_≡_};
+ghost use mathlib.Core.Bool.{false};
 ghost use Prim.Native.Nat.{ℕ, _+_, _-_, _^_, _<_, _≤_};
 ghost use lib.ListN.{length, getD};
 ghost use Rattle.charging.specs.Rows.{span, term, seen, Terms, spareAt, Paid};
@@ -34,8 +35,8 @@ pub fn reach(
     sum
 }
 
-// What the terms that need no charge can give.
-pub fn cover(
+// Whether the terms that need no charge give `enough`. Most rows are covered by their first terms, and the rest is not looked at.
+pub fn covered(
     n: usize,
     tv: &[usize],
     off: &[u8],
@@ -47,9 +48,10 @@ pub fn cover(
     res: &[u64],
     a: usize,
     many: usize,
-) -> u64
+    enough: u64,
+) -> bool
     requires { ⌜ Terms n (now tv) (now off) (now w) × (a + many ≤ length (now tv)) × (o + n ≤ length (now dear)) × (n ≤ length (now res)) ⌝ }
-    ensures { λ r. ⌜ r ≡ span (spareAt (now (tv .entry)) (now (off .entry)) (now (w .entry)) (seen set one) (now (dear .entry)) o (now (res .entry))) a many ⌝ }
+    ensures { λ r. ⌜ (r ≡ false → span (spareAt (now (tv .entry)) (now (off .entry)) (now (w .entry)) (seen set one) (now (dear .entry)) o (now (res .entry))) a many < enough) ⌝ }
 {
     let mut sum: u64 = 0;
     let mut j = 0;
@@ -57,9 +59,12 @@ pub fn cover(
         let k = a + j;
         let v = tv[k];
         sum += spared(look(set, one, v), off[k], dear[o + v], res[v], w[k]);
+        if enough <= sum {
+            return true;
+        }
         j += 1;
     }
-    sum
+    enough <= sum
 }
 
 // At most what is left to charge at each chargeable term.

@@ -1,6 +1,5 @@
 -- Where what needs no charge is too little, every completion that meets the row has a charged variable on its dear side (step-one); else nothing is charged.
 use native.Mathlib.Omega.{arith}
-use Prim.Native.Nat.{_-_}
 use lib.ListN.{set}
 use Rattle.charging.specs.Rows.{seen}
 use Rattle.charging.proofs.ChargeLaws.{step-one}
@@ -26,14 +25,20 @@ shared-slice-read-many c = search needs
 sub-many : tie.Need-sub-many
 sub-many c = let s = c .before .before .before .before .before .before .before .before .before .before in let a = s .args in let t = s .pre .0 in let i = t .inside (a .h) (s .pre .3) in let r = t .rising (a .h) (s .pre .3) in let q = s .pre .1 in omega arith
 
-cover-requires : tie.Need-cover-requires
-cover-requires c κs = let s = c .before .before .before .before .before .before .before .before .before .before .before in let a = s .args in let t = s .pre .0 in let i = t .inside (a .h) (s .pre .3) in let r = t .rising (a .h) (s .pre .3) in let q = s .pre .1 in (t .terms, omega arith, q .wide, s .pre .2)
+mul-t : tie.Need-mul-t
+mul-t c = search needs
 
-mul-if1 : tie.Need-mul-if1
-mul-if1 c = search needs
+shared-slice-read-t : tie.Need-shared-slice-read-t
+shared-slice-read-t c = search needs
 
-shared-slice-read-if1 : tie.Need-shared-slice-read-if1
-shared-slice-read-if1 c = search needs
+covered-requires : tie.Need-covered-requires
+covered-requires c κs = let s = c .before .before .before .before .before .before .before .before .before .before .before .before in let a = s .args in let t = s .pre .0 in let i = t .inside (a .h) (s .pre .3) in let r = t .rising (a .h) (s .pre .3) in let q = s .pre .1 in (t .terms, omega arith, q .wide, s .pre .2)
+
+same-length : tie.Need-same-length
+same-length c = search needs
+
+returns : tie.Need-returns
+returns c = search needs
 
 least-requires : tie.Need-least-requires
 least-requires c κs = let s = c .before .before .before .before .before .before .before .before .before .before .before .before .before .before .before in let a = s .args in let t = s .pre .0 in let i = t .inside (a .h) (s .pre .3) in let r = t .rising (a .h) (s .pre .3) in let q = s .pre .1 in (t .terms, omega arith, q .wide, s .pre .2)
@@ -41,17 +46,11 @@ least-requires c κs = let s = c .before .before .before .before .before .before
 pay-requires : tie.Need-pay-requires
 pay-requires c κs = let s = c .before .before .before .before .before .before .before .before .before .before .before .before .before .before .before .before .before in let a = s .args in let t = s .pre .0 in let i = t .inside (a .h) (s .pre .3) in let r = t .rising (a .h) (s .pre .3) in let q = s .pre .1 in (t .terms, omega arith, q .wide, s .pre .2)
 
-same-length : tie.Need-same-length
-same-length c = search needs
-
-returns : tie.Need-returns
-returns c = let s = c .before .before .before .before .before .before .before .before .before .before .before .before .before .before .before .before .before .before .before .before in let a = s .args in let t = s .pre .0 in let i = t .inside (a .h) (s .pre .3) in let r = t .rising (a .h) (s .pre .3) in let q = s .pre .1 in step-one (a .n) (a .start .now) (a .tv .now) (a .off .now) (a .w .now) (a .need .now) t (seen (a .set) (a .one)) (a .d .now) (a .dear .now) (a .o) q (a .res .now) _ (a .h) (c .before .before .before .before .least .result) (s .pre .3) (rw (c .before .before .before .before .before .before .before .before .cover .ensures) at (c .before .before .before .before .before .before .if1 .taken)) (c .before .before .before .before .least .ensures .0) (c .before .before .before .before .least .ensures .1) (c .before .before .pay .ensures)
-
 same-length-2 : tie.Need-same-length-2
 same-length-2 c = search needs
 
 returns-2 : tie.Need-returns-2
-returns-2 c = search needs
+returns-2 c = let s = c .before .before .before .before .before .before .before .before .before .before .before .before .before .before .before .before .before .before .before .before in let a = s .args in let t = s .pre .0 in let i = t .inside (a .h) (s .pre .3) in let r = t .rising (a .h) (s .pre .3) in let q = s .pre .1 in step-one (a .n) (a .start .now) (a .tv .now) (a .off .now) (a .w .now) (a .need .now) t (seen (a .set) (a .one)) (a .d .now) (a .dear .now) (a .o) q (a .res .now) _ (a .h) (c .before .before .before .before .least .result) (s .pre .3) (c .before .before .before .before .before .before .before .covered .ensures (c .before .before .before .before .before .before .if1 .left)) (c .before .before .before .before .least .ensures .0) (c .before .before .before .before .least .ensures .1) (c .before .before .pay .ensures)
 
 pub charge-row-spec : {M : Type 1} → statement M
 charge-row-spec =
@@ -63,12 +62,12 @@ charge-row-spec =
     mul-many
     shared-slice-read-many
     sub-many
-    cover-requires
-    mul-if1
-    shared-slice-read-if1
-    least-requires
-    pay-requires
+    mul-t
+    shared-slice-read-t
+    covered-requires
     same-length
     returns
+    least-requires
+    pay-requires
     same-length-2
     returns-2)

@@ -1,20 +1,21 @@
--- As reach, with what a term gives without a charge.
+-- The sum grows by what each term gives without a charge; once it is enough, the rest can only add to it.
 -- Invariant: sum is the span of length j. Measure: many - j.
 use borrow.Author.Needs.{needs}
 use native.Mathlib.Omega.{arith}
-use mathlib.Core.Path.{_≡_, sym, ap, _∙_}
-use Prim.Native.Nat.{ℕ, _≤_, _+_, _-_, _^_}
+use mathlib.Core.Path.{_≡_, sym, subst}
+use Prim.Native.Nat.{ℕ, _≤_, _<_, _+_, _-_, _^_}
 use lib.ListN.{getD, set}
 use Rattle.charging.specs.Rows.{span, seen, spareAt}
 use Rattle.charging.proofs.SumLaws.{span-none, span-more, span-le, spare-le}
-use Rattle.charging.proofs.terms.cover.Statement.{statement}
-use Rattle.charging.proofs.terms.cover.Tie as tie
+use borrow.Author.Tests.{leb-false}
+use Rattle.charging.proofs.terms.covered.Statement.{statement}
+use Rattle.charging.proofs.terms.covered.Tie as tie
 
 abbrev Inv-loop : tie.InvT-loop
-Inv-loop n tv off w set one dear o res a many sum₀ j₀ sum j = (j ≤ many) × (sum ≡ span (spareAt tv off w (seen set one) dear o res) a j)
+Inv-loop n tv off w set one dear o res a many enough sum₀ j₀ sum j = (j ≤ many) × (sum ≡ span (spareAt tv off w (seen set one) dear o res) a j)
 
 abbrev μ-loop : tie.MeasureT-loop
-μ-loop n tv off w set one dear o res a many sum₀ j₀ sum j = many - j
+μ-loop n tv off w set one dear o res a many enough sum₀ j₀ sum j = many - j
 
 loop-holds : tie.Need-loop-holds Inv-loop μ-loop
 loop-holds c = (omega arith, sym (span-none _ _))
@@ -58,6 +59,9 @@ spared-requires c κs = search needs
 add-sum : tie.Need-add-sum Inv-loop μ-loop
 add-sum c = let s = c .before .before .before .before .before .before .before .before .before .before .before .before .before .before in let a = s .args in let l = c .before .before .before .before .before .before .before .before .loop in let f = spareAt (a .tv .now) (a .off .now) (a .w .now) (seen (a .set) (a .one)) (a .dear .now) (a .o) (a .res .now) in let low : (k : ℕ) → f k ≤ 2 ^ 34 = λ k. omega (arith, spare-le (seen (a .set) (a .one) (getD (a .tv .now) k 0)) (getD (a .off .now) k 0) (getD (a .dear .now) (a .o + getD (a .tv .now) k 0) 0) (getD (a .res .now) (getD (a .tv .now) k 0) 0) (getD (a .w .now) k 0), s .pre .0 .small k) in let up = span-le f (a .a) (l .j) (2 ^ 34) low in let z = low (a .a + l .j) in let e = c .spared .ensures in let g = c .before .before .before .before .before .look .ensures in rw (e, g) (omega (arith, s .pre .0 .short))
 
+returns : tie.Need-returns Inv-loop μ-loop
+returns c = λ e. absurd (let z : _≡_ {A = ℕ} 0 1 = cc in omega arith)
+
 add-j : tie.Need-add-j Inv-loop μ-loop
 add-j c = search needs
 
@@ -65,13 +69,13 @@ loop-less : tie.Need-loop-less Inv-loop μ-loop
 loop-less c = search needs
 
 loop-again : tie.Need-loop-again Inv-loop μ-loop
-loop-again c = let s = c .before .before .before .before .before .before .before .before .before .before .before .before .before .before in let a = s .args in let l = c .before .before .before .before .before .before .before .before .loop in let f = spareAt (a .tv .now) (a .off .now) (a .w .now) (seen (a .set) (a .one)) (a .dear .now) (a .o) (a .res .now) in let e = c .spared .ensures in let g = c .before .before .before .before .before .look .ensures in (omega arith, rw (span-more, ← g) (omega arith))
+loop-again c = let s = c .before .before .before .before .before .before .before .before .before .before .before .before .before .before .before in let a = s .args in let l = c .before .before .before .before .before .before .before .before .before .loop in let f = spareAt (a .tv .now) (a .off .now) (a .w .now) (seen (a .set) (a .one)) (a .dear .now) (a .o) (a .res .now) in let e = c .before .spared .ensures in let g = c .before .before .before .before .before .before .look .ensures in (omega arith, rw (span-more, ← g) (omega arith))
 
-returns : tie.Need-returns Inv-loop μ-loop
-returns c = let s = c .before .before .before .before .before .before .before in let a = s .args in let l = c .before .loop in let f = spareAt (a .tv .now) (a .off .now) (a .w .now) (seen (a .set) (a .one)) (a .dear .now) (a .o) (a .res .now) in let e : l .j ≡ a .many = omega arith in l .inv .1 ∙ ap (λ (i : ℕ). span f (a .a) i) e
+returns-2 : tie.Need-returns-2 Inv-loop μ-loop
+returns-2 c = let s = c .before .before .before .before .before .before .before in let a = s .args in let l = c .before .loop in let f = spareAt (a .tv .now) (a .off .now) (a .w .now) (seen (a .set) (a .one)) (a .dear .now) (a .o) (a .res .now) in let e : l .j ≡ a .many = omega arith in λ z. subst (λ (i : ℕ). span f (a .a) i < a .enough) e (omega (arith, l .inv .1, leb-false (a .enough) (l .sum) z))
 
-pub cover-spec : {M : Type 1} → statement M
-cover-spec =
+pub covered-spec : {M : Type 1} → statement M
+covered-spec =
     tie.close
     (tie.spec
     Inv-loop
@@ -90,7 +94,8 @@ cover-spec =
     shared-slice-read-spared-4
     spared-requires
     add-sum
+    returns
     add-j
     loop-less
     loop-again
-    returns)
+    returns-2)

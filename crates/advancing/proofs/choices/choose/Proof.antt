@@ -5,8 +5,8 @@ use Rattle.charging.specs.Rows.{left}
 use Rattle.seeking.proofs.SeekLaws.{sizes-same}
 use Rattle.advancing.proofs.NextLaws.{stocked-sifted, ready-had, ready-end}
 use borrow.Author.Needs.{needs}
-use Rattle.advancing.proofs.choose.Statement.{statement}
-use Rattle.advancing.proofs.choose.Tie as tie
+use Rattle.advancing.proofs.choices.choose.Statement.{statement}
+use Rattle.advancing.proofs.choices.choose.Tie as tie
 
 sift-requires : tie.Need-sift-requires
 sift-requires c κs = search needs

@@ -10,8 +10,8 @@ use Rattle.capping.specs.Caps.{at}
 use Rattle.capping.proofs.CapLaws.{row-in}
 use Rattle.advancing.specs.Stocked.{Sifted}
 use Rattle.advancing.proofs.NextLaws.{sifted-none, sifted-drop, chosen-none, chosen-some, chosen-stale}
-use Rattle.advancing.proofs.sift.Statement.{statement}
-use Rattle.advancing.proofs.sift.Tie as tie
+use Rattle.advancing.proofs.choices.sift.Statement.{statement}
+use Rattle.advancing.proofs.choices.sift.Tie as tie
 
 abbrev Inv-loop : tie.InvT-loop
 Inv-loop k l m g₀ found₀ costs₀ c count₀ g found costs count = (length g ≡ length g₀) × (length found ≡ length found₀) × (length costs ≡ length costs₀) × Sifted k l m g₀ found₀ c g found count

@@ -9,8 +9,8 @@ use Rattle.capping.proofs.CapLaws.{row-in}
 use Rattle.charging.specs.Rows.{left}
 use Rattle.advancing.proofs.NextLaws.{held-none, ready-none, ready-some}
 use borrow.Author.Needs.{needs}
-use Rattle.advancing.proofs.gather.Statement.{statement}
-use Rattle.advancing.proofs.gather.Tie as tie
+use Rattle.advancing.proofs.choices.gather.Statement.{statement}
+use Rattle.advancing.proofs.choices.gather.Tie as tie
 
 blank-requires : tie.Need-blank-requires
 blank-requires c κs = search needs
