@@ -8,27 +8,33 @@ use mathlib.Core.Path.{_≡_, refl, sym, ap, _∙_, subst}
 use mathlib.Core.Logic.{_⊎_, ⊎-elim}
 use mathlib.Core.Bool.{true, false, not, _&&_}
 use mathlib.Core.List.{List, [], _∷_, List·Memᴰ, List·Memᴰ·not-nil, List·Memᴰ·cases-cons}
-use Prim.Native.Nat.{ℕ}
+use Prim.Native.Nat.{ℕ, _≤_}
 use native.Mathlib.Omega.{arith}
 use borrow.Author.Tests.{eqb-true, leb-true, ltb-true, not-true}
 use lib.Dec.{eqb, leb, ltb}
-use lib.ListN.{length, take}
+use lib.IntN.{ℤ}
+use lib.ListN.{length, take, drop}
 use Rattle.instance.specs.Rows.{Entry}
-use Rattle.instance.specs.Meaning.{Instance}
+use Rattle.instance.specs.Limits.{termRoom, rowRoom}
+use Rattle.instance.specs.Tables.{objectivesIn, IsInstance}
+use Rattle.instance.specs.Meaning.{Instance, entryAt, meaning}
+use Rattle.instance.proofs.ListLaws.{tabulate-length}
 use Rattle.reading.specs.Reading.{Outcome, accepted, refused, readBytes, instanceOf}
-use Rattle.reading.specs.Answers.{readNumber, readValue, answerOf, isLong}
+use Rattle.reading.specs.Answers.{readNumber, readValue, answerOf, isLong, readTerms, readRows}
 use Rattle.text.proofs.AnswerLaws.{answer-said, done-is, done-meaning, room-enough}
 use Rattle.points.specs.Fronts.{Candidate}
 use Rattle.points.specs.Lists.{Proper}
 use Rattle.files.specs.Written.{WrittenAs}
 use Rattle.front.specs.Listing.{FrontOf, room}
 use Rattle.front.specs.Computed.{frontOf}
-use Rattle.front.proofs.FrontLaws.{front-of, front-only}
+use Rattle.front.specs.Answers.{Answer}
+use Rattle.front.proofs.FrontLaws.{front-of}
+use Rattle.front.proofs.ProperLaws.{runs-proper}
 use Rattle.cases.specs.Rules.{Expected, refuses, lists, cuts, files, Reads, Listings, Files, HoldsAs}
 use Rattle.cases.specs.Cases.{Case, Holds, table, pointsT}
 use Rattle.cases.proofs.TestLaws.{and-both, no-clash, samePoints, samePoints-same, sameNumbers, sameNumbers-same, isWhole, isPart, isFileT, passesBy, passes, allPass}
-use Rattle.cases.proofs.ListedLaws.{listed-whole, listed-part, front-proper, Tells}
-use Rattle.cases.proofs.FileLaws.{checksT, as-T, FileTold, file-T}
+use Rattle.cases.proofs.ListedLaws.{listed-whole, listed-part, Tells}
+use Rattle.cases.proofs.FileLaws.{checksT, as-T, file-T}
 use Rattle.cases.proofs.TableLaws.{table-passes}
 
 module _ (text : List ℕ) (short : isLong text ≡ false) where
@@ -40,46 +46,64 @@ module _ (text : List ℕ) (short : isLong text ≡ false) where
     abbrev i : Instance
     i = instanceOf os es
 
-    -- ---- Listings
+    -- The tables that reading leaves are an instance, and its front is the one by enumeration.
+    module _ (ts rs : List ℤ) (h : termRoom ≤ length ts) (k : rowRoom ≤ length rs) where
+      abbrev ts′ : List ℤ
+      ts′ = readTerms text ts rs
 
-    -- The front by enumeration is that of the tables that reading leaves.
+      abbrev rs′ : List ℤ
+      rs′ = readRows text ts rs
+
+      is : IsInstance ts′ rs′
+      is = done-is text ts rs (room-enough ts rs h k) short e
+
+      means : meaning ts′ rs′ ≡ i
+      means = done-meaning text ts rs (room-enough ts rs h k) short e
+
+      front : FrontOf (meaning ts′ rs′) (frontOf i)
+      front = subst (λ (j : Instance). FrontOf j (frontOf i)) (sym means) (front-of i)
+
+      objectives-are : objectivesIn rs′ ≡ length os
+      objectives-are = sym (tabulate-length (entryAt ts′ rs′) 0 (objectivesIn rs′)) ∙ ap (λ (j : Instance). length (j .objectives)) means
+
+    -- ---- Listings
     listings-whole : (most : ℕ) (xs : List Candidate) → isWhole most (frontOf i) xs ≡ true → Listings text most 0 xs
     listings-whole most xs t ts rs h k vs ms m vs′ ms′ r l =
         let p = and-both (samePoints (frontOf i) xs) (leb (length (frontOf i)) most) t in
-        let wide = room-enough ts rs h k in
-        let f = subst (λ (j : Instance). FrontOf j (frontOf i)) (sym (done-meaning text ts rs wide short e)) (front-of i) in
-        subst (Tells (done-is text ts rs wide short e) (frontOf i) f vs ms vs′ ms′ r 0) (samePoints-same (frontOf i) xs (p .0))
-        (listed-whole (done-is text ts rs wide short e) (frontOf i) f vs ms vs′ ms′ (omega (arith, m, leb-true (length (frontOf i)) most (p .1))) r l)
+        subst (Tells (is ts rs h k) (frontOf i) (front ts rs h k) vs ms vs′ ms′ r 0) (samePoints-same (frontOf i) xs (p .0))
+        (listed-whole (is ts rs h k) (frontOf i) (front ts rs h k) vs ms vs′ ms′ (omega (arith, m, leb-true (length (frontOf i)) most (p .1))) r l)
 
     listings-part : (most : ℕ) (xs : List Candidate) → isPart most (frontOf i) xs ≡ true → Listings text most 11 xs
     listings-part most xs t ts rs h k vs ms m vs′ ms′ r l =
         let p = and-both (samePoints (take most (frontOf i)) xs) (ltb most (length (frontOf i))) t in
-        let wide = room-enough ts rs h k in
-        let f = subst (λ (j : Instance). FrontOf j (frontOf i)) (sym (done-meaning text ts rs wide short e)) (front-of i) in
         let same : take (room vs ms) (frontOf i) ≡ xs = ap (λ (j : ℕ). take j (frontOf i)) m ∙ samePoints-same (take most (frontOf i)) xs (p .0) in
-        subst (Tells (done-is text ts rs wide short e) (frontOf i) f vs ms vs′ ms′ r 11) same
-        (listed-part (done-is text ts rs wide short e) (frontOf i) f vs ms vs′ ms′ (omega (arith, m, ltb-true most (length (frontOf i)) (p .1))) r l)
+        subst (Tells (is ts rs h k) (frontOf i) (front ts rs h k) vs ms vs′ ms′ r 11) same
+        (listed-part (is ts rs h k) (frontOf i) (front ts rs h k) vs ms vs′ ms′ (omega (arith, m, ltb-true most (length (frontOf i)) (p .1))) r l)
 
     -- ---- Files
-    files-by : (bytes : ℕ) (checks : List ℕ) → isFileT os (i .variables) (frontOf i) bytes checks ≡ true → Files text bytes checks
-    files-by bytes checks t =
-        let p = and-both (eqb (length os) 2 && eqb (i .variables) 3) (samePoints (frontOf i) pointsT && (eqb bytes 1024 && sameNumbers checks checksT)) t in
+
+    -- The file of T's points: the list is proper, as it is the front of an instance.
+    files-T : (most : ℕ) → length os ≡ 2 → i .variables ≡ 3 → isWhole most (frontOf i) pointsT ≡ true → Files text most 1024 checksT
+    files-T most o n t ts rs h k vs ms m vs′ ms′ r l found left enough small w u =
+        let p = listings-whole most pointsT t ts rs h k vs ms m vs′ ms′ r l in
+        let f : FrontOf (meaning (ts′ ts rs h k) (rs′ ts rs h k)) pointsT =
+        subst (FrontOf (meaning (ts′ ts rs h k) (rs′ ts rs h k))) (samePoints-same (frontOf i) pointsT (and-both (samePoints (frontOf i) pointsT) (leb (length (frontOf i)) most) t .0)) (front ts rs h k)
+        in
+        let proper =
+        as-T Proper vs ms (objectives-are ts rs h k ∙ o) (ap (λ (j : Instance). j .variables) (means ts rs h k) ∙ n) refl refl refl
+        (runs-proper (is ts rs h k) pointsT (f .members) vs ms (f .rising) (f .apart) (omega arith))
+        in
+        file-T (drop 8 vs) (drop 2 ms) proper found left enough small w
+        (as-T (λ a b c vs ms. WrittenAs a b c vs ms found left w) vs ms (objectives-are ts rs h k ∙ o) (reads-as e ts rs h k .1 ∙ n) (ap (λ (a : Answer). a .points) (p .0)) (p .1) (p .2) u)
+
+    files-by : (most bytes : ℕ) (checks : List ℕ) → isFileT most os (i .variables) (frontOf i) bytes checks ≡ true → Files text most bytes checks
+    files-by most bytes checks t =
+        let p = and-both (eqb (length os) 2 && eqb (i .variables) 3) (isWhole most (frontOf i) pointsT && (eqb bytes 1024 && sameNumbers checks checksT)) t in
         let a = and-both (eqb (length os) 2) (eqb (i .variables) 3) (p .0) in
-        let b = and-both (samePoints (frontOf i) pointsT) (eqb bytes 1024 && sameNumbers checks checksT) (p .1) in
+        let b = and-both (isWhole most (frontOf i) pointsT) (eqb bytes 1024 && sameNumbers checks checksT) (p .1) in
         let c = and-both (eqb bytes 1024) (sameNumbers checks checksT) (b .1) in
-        told (eqb-true (length os) 2 (a .0)) (eqb-true (i .variables) 3 (a .1)) (samePoints-same (frontOf i) pointsT (b .0)) (eqb-true bytes 1024 (c .0)) (sameNumbers-same checks checksT (c .1))
-      where
-        told : length os ≡ 2 → i .variables ≡ 3 → frontOf i ≡ pointsT → bytes ≡ 1024 → checks ≡ checksT → Files text bytes checks
-        told o n f k s = record {
-          os = os;
-          rs = es;
-          says = e;
-          files = λ xs g found left h small r w.
-              let x : xs ≡ pointsT = front-only i g (front-of i) ∙ f in
-              let proper = as-T Proper o n x (front-proper text e xs g (omega (arith, ap length x))) in
-              subst (FileTold left r bytes) (sym s)
-              (subst (λ (m : ℕ). FileTold left r m checksT) (sym k) (file-T proper found left (omega (arith, h, k)) small r (as-T (λ a b c vs ms. WrittenAs a b c vs ms found left r) o n x w)));
-        }
+        subst (Files text most bytes) (sym (sameNumbers-same checks checksT (c .1)))
+        (subst (λ (k : ℕ). Files text most k checksT) (sym (eqb-true bytes 1024 (c .0))) (files-T most (eqb-true (length os) 2 (a .0)) (eqb-true (i .variables) 3 (a .1)) (b .0)))
 
   -- ---- a text that passes the test holds what is expected
   holds-by : (most : ℕ) (x : Expected) (o : Outcome) → readBytes text ≡ o → passesBy most x o ≡ true → HoldsAs text most x
@@ -98,7 +122,7 @@ module _ (text : List ℕ) (short : isLong text ≡ false) where
       let p = and-both (eqb (i .variables) n) (isPart most (frontOf i) xs) t in
       record { reads = subst (Reads text 0) (eqb-true (i .variables) n (p .0)) (reads-as e); listings = listings-part e most xs (p .1) }
   holds-by most (cuts n xs) (refused k s) e t = no-clash t
-  holds-by most (files bytes checks) (accepted os rs) e t = files-by e bytes checks t
+  holds-by most (files bytes checks) (accepted os rs) e t = files-by e most bytes checks t
   holds-by most (files bytes checks) (refused k s) e t = no-clash t
 
 -- ---- Holds

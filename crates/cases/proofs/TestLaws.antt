@@ -87,15 +87,15 @@ abbrev pub isPart : ℕ → List Candidate → List Candidate → Bool
 isPart most front xs = samePoints (take most front) xs && ltb most (length front)
 
 -- A file's bytes and checks are compared with what is proved of the file of T.
-abbrev pub isFileT : List Entry → ℕ → List Candidate → ℕ → List ℕ → Bool
-isFileT os n front bytes checks = (eqb (length os) 2 && eqb n 3) && (samePoints front pointsT && (eqb bytes 1024 && sameNumbers checks (65526 ∷ 65512 ∷ [])))
+abbrev pub isFileT : ℕ → List Entry → ℕ → List Candidate → ℕ → List ℕ → Bool
+isFileT most os n front bytes checks = (eqb (length os) 2 && eqb n 3) && (isWhole most front pointsT && (eqb bytes 1024 && sameNumbers checks (65526 ∷ 65512 ∷ [])))
 
 -- What is expected of a text that says os and rs.
 abbrev pub passesAs : ℕ → Expected → List Entry → List Entry → Bool
 passesAs most (refuses k s) os rs = false
 passesAs most (lists n xs) os rs = eqb ((instanceOf os rs) .variables) n && isWhole most (frontOf (instanceOf os rs)) xs
 passesAs most (cuts n xs) os rs = eqb ((instanceOf os rs) .variables) n && isPart most (frontOf (instanceOf os rs)) xs
-passesAs most (files bytes checks) os rs = isFileT os ((instanceOf os rs) .variables) (frontOf (instanceOf os rs)) bytes checks
+passesAs most (files bytes checks) os rs = isFileT most os ((instanceOf os rs) .variables) (frontOf (instanceOf os rs)) bytes checks
 
 -- What is expected of a text that is refused with number k at statement s.
 abbrev pub passesRefused : Expected → ℕ → ℕ → Bool

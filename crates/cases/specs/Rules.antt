@@ -5,15 +5,14 @@ use Prim.Native.Nat.{ℕ, _≤_, _<_}
 use lib.IntN.{ℤ}
 use lib.ListN.{length, getD}
 use Rattle.instance.specs.Limits.{termRoom, rowRoom}
-use Rattle.instance.specs.Rows.{Entry}
-use Rattle.reading.specs.Reading.{accepted, readBytes, instanceOf}
+use Rattle.instance.specs.Tables.{objectivesIn}
 use Rattle.reading.specs.Answers.{readNumber, readValue, readAnswer, readTerms, readRows}
 use Rattle.points.specs.Fronts.{Candidate}
 use Rattle.blocks.specs.Fields.{u16At}
 use Rattle.files.specs.Layout.{blockAt}
 use Rattle.files.specs.Written.{WrittenAs, writtenNumber, writtenValue}
 use Rattle.files.specs.declared.write.FileWritten.{FileWritten}
-use Rattle.front.specs.Listing.{FrontOf, room, valuesOf, modelsOf, valuesLeft, modelsLeft}
+use Rattle.front.specs.Listing.{room, valuesLeft, modelsLeft}
 use Rattle.front.specs.Answers.{answerOf, ListedAs}
 use Rattle.front.specs.declared.answer.Listed.{Listed}
 
@@ -45,19 +44,20 @@ pub record Lists (text : List ℕ) (most number n : ℕ) (xs : List Candidate) :
   pub reads : Reads text 0 n
   pub listings : Listings text most number xs
 
--- The text says objectives and rows, and whichever list is the front of them: writing its file into an output of enough bytes answers done with
--- the number of bytes, and leaves the check of each block.
-pub record Files (text : List ℕ) (bytes : ℕ) (checks : List ℕ) : Type 0 where
-  pub os : List Entry
-  pub rs : List Entry
-  pub says : readBytes text ≡ accepted os rs
-  pub files : (xs : List Candidate) → FrontOf (instanceOf os rs) xs → (found left : List ℕ) → bytes ≤ length found → ((i : ℕ) → getD left i 0 < 256) → (r : FileWritten)
-      → WrittenAs (length os) ((instanceOf os rs) .variables) (length xs) (valuesOf xs) (modelsOf xs) found left r
-      → (writtenNumber r ≡ 0) × (writtenValue r ≡ bytes) × ((b : ℕ) → b < length checks → u16At (blockAt left b) 0 ≡ getD checks b 0)
+-- Whatever tables the text was read into, and whatever runs with room for so many points its front was listed into: each answer that the contract
+-- of writing a file allows of the points that listing left, with an output of enough bytes, is done with the number of bytes, and leaves the
+-- check of each block. A byte that is left is below 256.
+abbrev pub Files : List ℕ → ℕ → ℕ → List ℕ → Type 0
+Files text most bytes checks =
+    (ts rs : List ℤ) → termRoom ≤ length ts → rowRoom ≤ length rs → (vs : List ℤ) (ms : List ℕ) → room vs ms ≡ most → (vs′ : List ℤ) (ms′ : List ℕ) (l : Listed)
+    → ListedAs (readTerms text ts rs) (readRows text ts rs) vs ms vs′ ms′ l
+    → (found left : List ℕ) → bytes ≤ length found → ((i : ℕ) → getD left i 0 < 256) → (r : FileWritten)
+    → WrittenAs (objectivesIn (readRows text ts rs)) (readValue (readAnswer text ts rs)) ((answerOf l) .points) vs′ ms′ found left r
+    → (writtenNumber r ≡ 0) × (writtenValue r ≡ bytes) × ((b : ℕ) → b < length checks → u16At (blockAt left b) 0 ≡ getD checks b 0)
 
 -- What is expected of a text with room for so many points holds.
 abbrev pub HoldsAs : List ℕ → ℕ → Expected → Type 0
 HoldsAs text most (refuses k s) = Reads text k s
 HoldsAs text most (lists n xs) = Lists text most 0 n xs
 HoldsAs text most (cuts n xs) = Lists text most 11 n xs
-HoldsAs text most (files bytes checks) = Files text bytes checks
+HoldsAs text most (files bytes checks) = Files text most bytes checks
