@@ -32,9 +32,9 @@ use Rattle.front.proofs.FrontLaws.{front-of}
 use Rattle.front.proofs.ProperLaws.{runs-proper}
 use Rattle.cases.specs.Rules.{Expected, refuses, lists, cuts, files, Reads, Listings, Files, HoldsAs}
 use Rattle.cases.specs.Cases.{Case, Holds, table, pointsT}
-use Rattle.cases.proofs.TestLaws.{and-both, no-clash, samePoints, samePoints-same, sameNumbers, sameNumbers-same, isWhole, isPart, isFileT, passesBy, passes, allPass}
+use Rattle.cases.proofs.TestLaws.{and-both, no-clash, samePoints, samePoints-same, sameNumbers, sameNumbers-same, isWhole, isPart, checksT, isFileT, passesBy, passes, allPass}
 use Rattle.cases.proofs.ListedLaws.{listed-whole, listed-part, Tells}
-use Rattle.cases.proofs.FileLaws.{checksT, as-T, file-T}
+use Rattle.cases.proofs.FileLaws.{as-T, file-T}
 use Rattle.cases.proofs.TableLaws.{table-passes}
 
 module _ (text : List ℕ) (short : isLong text ≡ false) where

@@ -1,6 +1,6 @@
 -- The file of T: what writing its front answers, from case P11 of front files. Assumes nothing.
 use mathlib.Core.Path.{_≡_, refl, _∙_, subst}
-use mathlib.Core.List.{List, [], _∷_}
+use mathlib.Core.List.{List}
 use Prim.Native.Nat.{ℕ, zero, suc, _≤_, _<_}
 use native.Mathlib.Omega.{arith}
 use lib.IntN.{ℤ}
@@ -15,10 +15,7 @@ use Rattle.files.specs.declared.write.FileWritten.the-variants.{Done as Wrote, 
 use Rattle.files.proofs.CaseLaws.{valuesT, modelsT, CaseP11, case-P11}
 use Rattle.front.specs.Listing.{valuesOf, valuesLeft, modelsLeft}
 use Rattle.cases.specs.Cases.{pointsT}
-
--- The checks of the file of T.
-abbrev pub checksT : List ℕ
-checksT = 65526 ∷ 65512 ∷ []
+use Rattle.cases.proofs.TestLaws.{checksT}
 
 -- Runs that begin with T's points.
 pub values-T : (vs : List ℤ) → valuesLeft pointsT vs ≡ valuesT (drop 8 vs)

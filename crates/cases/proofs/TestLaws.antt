@@ -86,9 +86,13 @@ isWhole most front xs = samePoints front xs && leb (length front) most
 abbrev pub isPart : ℕ → List Candidate → List Candidate → Bool
 isPart most front xs = samePoints (take most front) xs && ltb most (length front)
 
+-- The checks of the file of T.
+abbrev pub checksT : List ℕ
+checksT = 65526 ∷ 65512 ∷ []
+
 -- A file's bytes and checks are compared with what is proved of the file of T.
 abbrev pub isFileT : ℕ → List Entry → ℕ → List Candidate → ℕ → List ℕ → Bool
-isFileT most os n front bytes checks = (eqb (length os) 2 && eqb n 3) && (isWhole most front pointsT && (eqb bytes 1024 && sameNumbers checks (65526 ∷ 65512 ∷ [])))
+isFileT most os n front bytes checks = (eqb (length os) 2 && eqb n 3) && (isWhole most front pointsT && (eqb bytes 1024 && sameNumbers checks checksT))
 
 -- What is expected of a text that says os and rs.
 abbrev pub passesAs : ℕ → Expected → List Entry → List Entry → Bool
