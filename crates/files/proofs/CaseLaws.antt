@@ -21,12 +21,12 @@ use Rattle.files.proofs.PointLaws.{s5, point-put, points-none, points-m
 use Rattle.files.proofs.WriteLaws.{file-of}
 use Rattle.files.proofs.FileLaws.{blocks-unique}
 
--- The list of T: (1,4) by 2, (5,3) by 5.
-abbrev pub valuesT : List ℤ
-valuesT = pos 1 ∷ (pos 4 ∷ (pos 0 ∷ (pos 0 ∷ (pos 5 ∷ (pos 3 ∷ (pos 0 ∷ (pos 0 ∷ [])))))))
+-- Runs that begin with the list of T, (1,4) by 2 and (5,3) by 5, whatever comes after it.
+abbrev pub valuesT : List ℤ → List ℤ
+valuesT more = pos 1 ∷ (pos 4 ∷ (pos 0 ∷ (pos 0 ∷ (pos 5 ∷ (pos 3 ∷ (pos 0 ∷ (pos 0 ∷ more)))))))
 
-abbrev pub modelsT : List ℕ
-modelsT = 2 ∷ (5 ∷ [])
+abbrev pub modelsT : List ℕ → List ℕ
+modelsT more = 2 ∷ (5 ∷ more)
 
 -- Its two blocks.
 abbrev start : ℕ → ℕ → List ℕ
@@ -50,13 +50,15 @@ pointsT = sealed bothT
 head-of : HeadOf 2 3 2 headT
 head-of = head-put (start 1 0) (begun 512 1 0 refl) 2 3 2
 
-points-of : PointsOf 1 0 2 valuesT modelsT pointsT
-points-of =
+points-of : (us : List ℤ) (ls : List ℕ) → PointsOf 1 0 2 (valuesT us) (modelsT ls) pointsT
+points-of us ls =
+    let vs : List ℤ = valuesT us in
+    let ms : List ℕ = modelsT ls in
     let b : Begun 2 1 (start 2 1) = begun 512 2 1 refl in
-    let p = point-put (start 2 1) 0 valuesT modelsT 0 (b .whole) (omega arith) in
-    let q = points-more (start 2 1) (start 2 1) firstT 0 0 valuesT modelsT (points-none (start 2 1) 0 valuesT modelsT) p in
-    points-sealed (start 2 1) bothT 1 0 2 valuesT modelsT b
-    (points-more (start 2 1) firstT bothT 0 1 valuesT modelsT q (point-put firstT 1 valuesT modelsT 1 (p .whole ∙ b .whole) (omega arith)))
+    let p = point-put (start 2 1) 0 vs ms 0 (b .whole) (omega arith) in
+    let q = points-more (start 2 1) (start 2 1) firstT 0 0 vs ms (points-none (start 2 1) 0 vs ms) p in
+    points-sealed (start 2 1) bothT 1 0 2 vs ms b
+    (points-more (start 2 1) firstT bothT 0 1 vs ms q (point-put firstT 1 vs ms 1 (p .whole ∙ b .whole) (omega arith)))
 
 fileT : List ℕ
 fileT = headT ++ pointsT
@@ -100,19 +102,20 @@ check-1 : u16At pointsT 0 ≡ 65512
 unfolding put16 put32 put64 wordSum u16At
 check-1 = refl
 
--- P11: whatever writing the list of T leaves where it is done, it is 1,024 bytes, with the checks FFF6 and FFE8.
+-- P11: whatever writing the list of T leaves where it is done, it is 1,024 bytes, with the checks FFF6 and FFE8, whatever the runs hold after
+-- the list.
 pub record CaseP11 (k : ℕ) (left : List ℕ) : Type 0 where
   pub bytes : k ≡ 1024
   pub head-check : u16At (blockAt left 0) 0 ≡ 65526
   pub points-check : u16At (blockAt left 1) 0 ≡ 65512
 
-pub case-P11 : {found left : List ℕ} {k : ℕ} → WrittenAs 2 3 2 valuesT modelsT found left (Wrote k) → Bytes left → CaseP11 k left
-case-P11 {left = left} w h =
+pub case-P11 : (us : List ℤ) (ls : List ℕ) {found left : List ℕ} {k : ℕ} → WrittenAs 2 3 2 (valuesT us) (modelsT ls) found left (Wrote k) → Bytes left → CaseP11 k left
+case-P11 us ls {left = left} w h =
     let g =
     file-of (w .proper) fileT (subst (HeadOf 2 3 2) (sym block-0) head-of)
     (λ b s l.
     let e : 1 ≡ b = omega arith in
-    subst (λ (j : ℕ). PointsOf j ((j - 1) * 12) (countIn 2 j) valuesT modelsT (blockAt fileT j)) e (subst (PointsOf 1 0 2 valuesT modelsT) (sym block-1) points-of))
+    subst (λ (j : ℕ). PointsOf j ((j - 1) * 12) (countIn 2 j) (valuesT us) (modelsT ls) (blockAt fileT j)) e (subst (PointsOf 1 0 2 (valuesT us) (modelsT ls)) (sym block-1) (points-of us ls)))
     in
     let same = blocks-unique left fileT (w .file) g h (small-bytes fileT file-small) (omega (arith, w .room, w .whole)) (omega (arith, file-length)) in
     record {

@@ -17,7 +17,7 @@ use Rattle.instance.specs.Meaning.{Instance, meaning}
 use Rattle.instance.specs.Layout.{allTerms, termTable, rowTable}
 use Rattle.reading.specs.declared.texts.TextRead.the-variants.{Done, ShortTable, LongText, Grammar, LateObjective, TooMany, OutOfRange, NoVariable, TooManyTerms, NoObjective}
 use Rattle.reading.specs.Limits.{maxText}
-use Rattle.reading.specs.Reading.{Outcome, accepted, refused, readBytes}
+use Rattle.reading.specs.Reading.{Outcome, accepted, refused, readBytes, instanceOf}
 use Rattle.reading.specs.Answers.{readNumber, refusalOf, answerOf, entriesOf, isShort, isLong, readAnswer, readTerms, readRows}
 use Rattle.writing.specs.Answers.{textOf}
 use Rattle.text.specs.RoundTrip.{GivesBack, LeavesInstance}
@@ -25,12 +25,16 @@ use Rattle.text.proofs.RoundTripLaws.{written-read-back, read-instance,
 
 -- ---- readAnswer, readTerms, readRows, where nothing is too short or too long
 
-module _ (text : List ℕ) (ts rs : List ℤ) (short : isShort ts rs ≡ false) (long : isLong text ≡ false) {os es : List Entry} (e : readBytes text ≡ accepted os es) where
-  answer-done : readAnswer text ts rs ≡ Done (highest (allTerms (os ++ es)))
-  answer-done =
+module _ (text : List ℕ) (ts rs : List ℤ) (short : isShort ts rs ≡ false) (long : isLong text ≡ false) where
+  -- The answer is what the text says.
+  pub answer-said : readAnswer text ts rs ≡ answerOf (readBytes text)
+  answer-said =
       ap (λ (t : Bool). cond t ShortTable (cond (isLong text) LongText (answerOf (readBytes text)))) short
       ∙ ap (λ (t : Bool). cond t LongText (answerOf (readBytes text))) long
-      ∙ ap answerOf e
+
+module _ (text : List ℕ) (ts rs : List ℤ) (short : isShort ts rs ≡ false) (long : isLong text ≡ false) {os es : List Entry} (e : readBytes text ≡ accepted os es) where
+  answer-done : readAnswer text ts rs ≡ Done (highest (allTerms (os ++ es)))
+  answer-done = answer-said text ts rs short long ∙ ap answerOf e
 
   neither : isShort ts rs || isLong text ≡ false
   neither = ap₂ (λ (t u : Bool). t || u) short long
@@ -41,9 +45,16 @@ module _ (text : List ℕ) (ts rs : List ℤ) (short : isShort ts rs ≡ false) 
   rows-done : readRows text ts rs ≡ rowTable (os ++ es) rs
   rows-done = ap (λ (t : Bool). cond t rs (rowTable (entriesOf (readBytes text)) rs)) neither ∙ ap (λ (o : Outcome). rowTable (entriesOf o) rs) e
 
+  -- The tables that are left are an instance, and mean what the text says.
+  pub done-is : IsInstance (readTerms text ts rs) (readRows text ts rs)
+  done-is = subst (λ (a : List ℤ). IsInstance a (readRows text ts rs)) (sym terms-done) (subst (IsInstance (termTable (os ++ es) ts)) (sym rows-done) (read-instance text e ts rs))
+
+  pub done-meaning : meaning (readTerms text ts rs) (readRows text ts rs) ≡ instanceOf os es
+  done-meaning = ap₂ meaning terms-done rows-done ∙ read-meaning text e ts rs
+
 -- ---- tables, text, tables
 
-room-enough : (a b : List ℤ) → termRoom ≤ length a → rowRoom ≤ length b → isShort a b ≡ false
+pub room-enough : (a b : List ℤ) → termRoom ≤ length a → rowRoom ≤ length b → isShort a b ≡ false
 room-enough a b h k = ap₂ (λ (t u : Bool). t || u) (le-ltb (length a) termRoom h) (le-ltb (length b) rowRoom k)
 
 module _ {ts rs : List ℤ} (i : IsInstance ts rs) where
@@ -100,9 +111,7 @@ module _ (text : List ℕ) (ts rs : List ℤ) {n : ℕ} where
       by true u o e f g h = absurd (omega (arith, ap readNumber h))
       by false true o e f g h = absurd (omega (arith, ap readNumber h))
       by false false (refused k s) e f g h = absurd (refusal-some k s (ap readNumber h))
-      by false false (accepted os es) e f g h =
-          subst (λ (a : List ℤ). LeavesInstance n a (readRows text ts rs)) (sym (terms-done text ts rs e f g))
-          (subst (LeavesInstance n (termTable (os ++ es) ts)) (sym (rows-done text ts rs e f g)) (record {
-            is = read-instance text g ts rs;
-            variables = ap (λ (i : Instance). i .variables) (read-meaning text g ts rs) ∙ variable-number h;
-          }))
+      by false false (accepted os es) e f g h = record {
+        is = done-is text ts rs e f g;
+        variables = ap (λ (i : Instance). i .variables) (done-meaning text ts rs e f g) ∙ variable-number h;
+      }
