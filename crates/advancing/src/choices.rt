@@ -2,7 +2,7 @@
 use seeking::Stock;
 ghost use Prim.Native.Nat.{_-_, _*_, _<_, _≤_};
 ghost use lib.ListN.{length};
-ghost use Rattle.charging.specs.Rows.{Table};
+ghost use Rattle.charging.specs.Rows.{Table, Ceiled};
 ghost use Rattle.capping.specs.Caps.{at};
 ghost use Rattle.seeking.specs.Gathers.{Sizes};
 ghost use Rattle.advancing.specs.Stocked.{Stocked, Sifted, Chosen, Ready};
@@ -70,8 +70,12 @@ pub fn gather(
     found: &mut [u64],
     top: &mut [u64],
     costs: &mut [u64],
+    ed: &[u64],
+    edear: &[u8],
+    e: usize,
+    ecap: &[u64],
 ) -> Choice
-    requires table { ⌜ Table n (now start) (now tv) (now off) (now w) (now need) × Sizes n k m (now d) (now dear) (now l) (now g) (now found) (now top) (now lb) (now cap) (now res) × (k ≤ length (now costs)) ⌝ }
+    requires table { ⌜ Table n (now start) (now tv) (now off) (now w) (now need) × Sizes n k m (now d) (now dear) (now l) (now g) (now found) (now top) (now lb) (now cap) (now res) × (k ≤ length (now costs)) × Ceiled n (now start) (now tv) (now off) (now w) (now need) e (now ed) (now edear) (now ecap) ⌝ }
     ensures { λ r. ⌜ Ready n (now (start .entry)) (now (tv .entry)) (now (off .entry)) (now (w .entry)) (now (need .entry)) (now (d .entry)) (now (dear .entry)) k (now (l .entry)) m (now (g .exit)) (now (found .exit)) (r .stock .count) (r .stock .cut) (now (top .exit)) (r .place) (at (now (costs .exit))) ⌝ }
 {
     let p = narrowing::blank(n);
@@ -100,6 +104,10 @@ pub fn gather(
         top,
         p,
         nothing,
+        ed,
+        edear,
+        e,
+        ecap,
     );
     let count = got.count;
     if count == 0 {
@@ -138,8 +146,12 @@ pub fn choose(
     top: &mut [u64],
     costs: &mut [u64],
     stock: Stock,
+    ed: &[u64],
+    edear: &[u8],
+    e: usize,
+    ecap: &[u64],
 ) -> Choice
-    requires table { ⌜ Table n (now start) (now tv) (now off) (now w) (now need) × Sizes n k m (now d) (now dear) (now l) (now g) (now found) (now top) (now lb) (now cap) (now res) × (k ≤ length (now costs)) ⌝ }
+    requires table { ⌜ Table n (now start) (now tv) (now off) (now w) (now need) × Sizes n k m (now d) (now dear) (now l) (now g) (now found) (now top) (now lb) (now cap) (now res) × (k ≤ length (now costs)) × Ceiled n (now start) (now tv) (now off) (now w) (now need) e (now ed) (now edear) (now ecap) ⌝ }
     requires stocked { ⌜ Stocked n (now start) (now tv) (now off) (now w) (now need) (now d) (now dear) k (now l) m (now g) (now found) (stock .count) (stock .cut) (now top) ⌝ }
     ensures { λ r. ⌜ Ready n (now (start .entry)) (now (tv .entry)) (now (off .entry)) (now (w .entry)) (now (need .entry)) (now (d .entry)) (now (dear .entry)) k (now (l .entry)) m (now (g .exit)) (now (found .exit)) (r .stock .count) (r .stock .cut) (now (top .exit)) (r .place) (at (now (costs .exit))) ⌝ }
 {
@@ -177,6 +189,10 @@ pub fn choose(
             found,
             top,
             costs,
+            ed,
+            edear,
+            e,
+            ecap,
         );
     }
     Choice {

@@ -16,7 +16,7 @@ pub use choices::sift;
 use seeking::Stock;
 ghost use Prim.Native.Nat.{_-_, _≤_};
 ghost use lib.ListN.{length};
-ghost use Rattle.charging.specs.Rows.{Table};
+ghost use Rattle.charging.specs.Rows.{Table, Ceiled};
 ghost use Rattle.seeking.specs.Gathers.{Sizes};
 ghost use Rattle.advancing.specs.Next.{Next};
 ghost use Rattle.advancing.specs.Stocked.{Stocked};
@@ -28,7 +28,8 @@ pub struct Advance {
     pub stock: Stock,
 }
 
-// The point after the m points of l: its vector in `costs`, its witness in the answer. `order` is a hint; res, lb and cap are scratch.
+// The point after the m points of l: its vector in `costs`, its witness in the answer. `order` is a hint; res, lb and cap are scratch; ed, edear
+// and ecap have e ceilings (R7).
 // Rules out: a vector that a listed point weakly dominates; a later vector; a witness that is not the smallest.
 pub fn next_point(
     n: usize,
@@ -51,8 +52,12 @@ pub fn next_point(
     top: &mut [u64],
     costs: &mut [u64],
     stock: Stock,
+    ed: &[u64],
+    edear: &[u8],
+    e: usize,
+    ecap: &[u64],
 ) -> Advance
-    requires table { ⌜ Table n (now start) (now tv) (now off) (now w) (now need) × Sizes n k m (now d) (now dear) (now l) (now g) (now found) (now top) (now lb) (now cap) (now res) × (k ≤ length (now costs)) ⌝ }
+    requires table { ⌜ Table n (now start) (now tv) (now off) (now w) (now need) × Sizes n k m (now d) (now dear) (now l) (now g) (now found) (now top) (now lb) (now cap) (now res) × (k ≤ length (now costs)) × Ceiled n (now start) (now tv) (now off) (now w) (now need) e (now ed) (now edear) (now ecap) ⌝ }
     requires stocked { ⌜ Stocked n (now start) (now tv) (now off) (now w) (now need) (now d) (now dear) k (now l) m (now g) (now found) (stock .count) (stock .cut) (now top) ⌝ }
     ensures next { λ r. ⌜ Next n (now (start .entry)) (now (tv .entry)) (now (off .entry)) (now (w .entry)) (now (need .entry)) (now (d .entry)) (now (dear .entry)) k (now (l .entry)) m (r .ok) (r .number) (now (costs .exit)) ⌝ }
     ensures stocked { λ r. ⌜ Stocked n (now (start .entry)) (now (tv .entry)) (now (off .entry)) (now (w .entry)) (now (need .entry)) (now (d .entry)) (now (dear .entry)) k (now (l .entry)) m (now (g .exit)) (now (found .exit)) (r .stock .count) (r .stock .cut) (now (top .exit)) ⌝ }
@@ -78,6 +83,10 @@ pub fn next_point(
         top,
         costs,
         stock,
+        ed,
+        edear,
+        e,
+        ecap,
     );
     let kept = r.stock;
     let count = kept.count;

@@ -5,6 +5,8 @@ use crate::order::by_share;
 use instance::Checked;
 use instance::Instance;
 use instance::Term;
+use normal::ceilings::Ceiling;
+use normal::ceilings::lay_ceilings;
 use normal::costs::lay_objectives;
 use normal::fill::Filled;
 use normal::fill::lay_rows;
@@ -67,6 +69,9 @@ fn list_instance(
     let mut needs = [0u64; Filled::HALVES];
     let mut gaps = [0u64; Filled::GAPS];
     let mut dears = [0u8; Filled::GAPS];
+    let mut ceilings = [0u64; Filled::GAPS];
+    let mut sides = [0u8; Filled::GAPS];
+    let mut tops = [0u64; Ceiling::MAX_COUNT];
     let mut order = [0usize; Term::MAX_VARIABLE as usize];
     let filled = lay_rows(
         terms,
@@ -83,6 +88,18 @@ fn list_instance(
     let used = filled.used;
     let halves = filled.halves;
     let numbers = k * n;
+    let e = lay_ceilings(
+        n,
+        &starts[..halves + 1],
+        &variables[..used],
+        &offs[..used],
+        &weights[..used],
+        &needs[..halves],
+        &mut ceilings,
+        &mut sides,
+        &mut tops,
+    );
+    let above = e * n;
     by_share(n, &gaps[..numbers], k, &mut order);
     list_points(
         terms,
@@ -97,6 +114,10 @@ fn list_instance(
         &dears[..numbers],
         k,
         &order,
+        &ceilings[..above],
+        &sides[..above],
+        e,
+        &tops,
         room,
         values,
         models,

@@ -8,6 +8,7 @@ use points::Point;
 use seeking::Stock;
 ghost use Prim.Native.Nat.{_*_, _≤_};
 ghost use lib.ListN.{length};
+ghost use Rattle.charging.specs.Rows.{Ceiled};
 ghost use Rattle.points.specs.Limits.{maxPoints};
 ghost use Rattle.normal.specs.Normal.{Normal};
 ghost use Rattle.front.specs.Listing.{Lists};
@@ -42,12 +43,17 @@ pub fn list_points(
     dears: &[u8],
     k: usize,
     order: &[usize],
+    ceilings: &[u64],
+    sides: &[u8],
+    e: usize,
+    tops: &[u64],
     room: usize,
     values: &mut [i64],
     models: &mut [u64],
 ) -> Outcome
     requires { ⌜ Normal (now terms) (now rows) n k (now starts) (now variables) (now offs) (now weights) (now needs) (now gaps) (now dears) ⌝ }
     requires { ⌜ (room ≤ maxPoints) × (room * 4 ≤ length (now values)) × (room ≤ length (now models)) ⌝ }
+    requires { ⌜ Ceiled n (now starts) (now variables) (now offs) (now weights) (now needs) e (now ceilings) (now sides) (now tops) ⌝ }
     ensures { λ r. ⌜ Lists (now (terms .entry)) (now (rows .entry)) room (now (values .entry)) (now (models .entry)) (now (values .exit)) (now (models .exit)) (r .all) (r .points) ⌝ }
 {
     let mut listed = [0u64; Outcome::LISTED];
@@ -85,6 +91,10 @@ pub fn list_points(
             &mut limit,
             &mut costs,
             stock,
+            ceilings,
+            sides,
+            e,
+            tops,
         );
         let more = next.ok;
         if !more {

@@ -7,7 +7,7 @@ use mathlib.Core.List.{List}
 use Prim.Native.Nat.{ℕ, _+_, _-_, _*_, _^_, _≤_, _<_}
 use native.Mathlib.Omega.{arith}
 use lib.ListN.{length, getD}
-use Rattle.charging.specs.Rows.{bit, Table, Completes, Meets, Costs}
+use Rattle.charging.specs.Rows.{bit, Table, Completes, Meets, Costs, Ceiled}
 use Rattle.charging.proofs.SumLaws.{eq-or}
 use Rattle.charging.proofs.ChargeLaws.{reach-up}
 use Rattle.narrowing.specs.declared.Part.{Part}
@@ -37,6 +37,10 @@ module _ (n : ℕ) (start tv off w need d dear : List ℕ) (k : ℕ) (l : List �
 
   pub want-off : (p q : Part) (cap : List ℕ) → Leads n W p q → Capped n Q d dear k q cap false → Cuts n W p false q
   want-off p q cap a e = cuts-then n W p q q false a (cuts-off n W q (a .good) (λ x z u. e .none refl x z (u .sought, u .meets)))
+
+  pub want-ceilings : (p q r : Part) {e : ℕ} {ed edear ecap : List ℕ} (ok : Bool) → Leads n W p q → Ceiled n start tv off w need e ed edear ecap → Cuts n (Wanted n start tv off w need ed edear e ecap) q ok r → Cuts n W p ok r
+  want-ceilings p q r {e} {ed} {edear} {ecap} ok a c f =
+      cuts-then n W p q r ok a (cuts-less n (Wanted n start tv off w need ed edear e ecap) W q r ok (λ x z u. record { meets = u .meets; under = λ i l. c .bound i l x (z .bits) (u .meets) }) f)
 
   pub want-forces : (p q r : Part) (cap : List ℕ) (ok : Bool) → Leads n W p q → Capped n Q d dear k q cap true → Cuts n (Wanted n start tv off w need d dear k cap) q ok r → Cuts n W p ok r
   want-forces p q r cap ok a e f =

@@ -1,7 +1,7 @@
 // Gathering: points of the front, many from one tree, over normal tables.
 //
 // search(.., p, stock)    gathers what is fit below p, by a recursion over the unset variables
-// reduce(.., p)           R1 to R6 to a fixpoint: sets what is forced, or finds that nothing is wanted below p
+// reduce(.., p)           R1 to R7 to a fixpoint: sets what is forced, or finds that nothing is wanted below p
 // least, drop_point       the first gathered point in the order of vectors; taking one out
 //
 // A stock holds gathered points in lent runs. Where there is no room for one more, the greatest is left out and is a limit from then on: what
@@ -36,11 +36,11 @@ pub use vectors::within;
 ghost use mathlib.Core.Bool.{false};
 ghost use Prim.Native.Nat.{ℕ, _-_, _*_, _<_, _≤_};
 ghost use lib.ListN.{length};
-ghost use Rattle.charging.specs.Rows.{Table, Costs};
+ghost use Rattle.charging.specs.Rows.{Table, Costs, Ceiled};
 ghost use Rattle.narrowing.specs.Parts.{Good, Cuts};
 ghost use Rattle.seeking.specs.Gathers.{Want, Fit, Found, Held, Gathers, Sizes};
 
-// Rows, caps and charges, until nothing more is forced.
+// Rows, ceilings (R7: `ed`, `edear` and `ecap` have e of them), caps and charges, until nothing more is forced.
 pub fn reduce(
     n: usize,
     start: &[usize],
@@ -60,8 +60,12 @@ pub fn reduce(
     lb: &mut [u64],
     cap: &mut [u64],
     p: Part,
+    ed: &[u64],
+    edear: &[u8],
+    e: usize,
+    ecap: &[u64],
 ) -> Cut
-    requires { ⌜ Table n (now start) (now tv) (now off) (now w) (now need) × ((i : ℕ) → i < k → Costs n (now d) (now dear) (i * n)) × (m * k ≤ length (now l)) × (stock .count * k ≤ length (now g)) × (k ≤ length (now top)) × (k ≤ length (now lb)) × (k ≤ length (now cap)) × (n ≤ length (now res)) × Good n p ⌝ }
+    requires { ⌜ Table n (now start) (now tv) (now off) (now w) (now need) × ((i : ℕ) → i < k → Costs n (now d) (now dear) (i * n)) × (m * k ≤ length (now l)) × (stock .count * k ≤ length (now g)) × (k ≤ length (now top)) × (k ≤ length (now lb)) × (k ≤ length (now cap)) × (n ≤ length (now res)) × Good n p × Ceiled n (now start) (now tv) (now off) (now w) (now need) e (now ed) (now edear) (now ecap) ⌝ }
     ensures { λ r. ⌜ Cuts n (Want n (now (start .entry)) (now (tv .entry)) (now (off .entry)) (now (w .entry)) (now (need .entry)) (now (d .entry)) (now (dear .entry)) k (now (l .entry)) m (now (g .entry)) (stock .count) (stock .cut) (now (top .entry))) p (r .ok) (r .part) ⌝ }
 {
     let count = stock.count;
@@ -74,7 +78,12 @@ pub fn reduce(
         if !ok {
             return c;
         }
-        let s = c.part;
+        let t = forcing::forces(n, start, tv, off, w, need, ed, edear, e, ecap, res, c.part);
+        let held = t.ok;
+        if !held {
+            return t;
+        }
+        let s = t.part;
         let fine = capping::caps(
             n,
             start,
@@ -99,15 +108,15 @@ pub fn reduce(
         if !fine {
             return Cut { ok: false, part: s };
         }
-        let e = forcing::forces(n, start, tv, off, w, need, d, dear, k, &*cap, res, s);
-        let good = e.ok;
+        let f = forcing::forces(n, start, tv, off, w, need, d, dear, k, &*cap, res, s);
+        let good = f.ok;
         if !good {
-            return e;
+            return f;
         }
-        q = e.part;
+        q = f.part;
         let after = q.left;
         if after == before {
-            return e;
+            return f;
         }
     }
 }
@@ -134,8 +143,12 @@ pub fn search(
     top: &mut [u64],
     p: Part,
     stock: Stock,
+    ed: &[u64],
+    edear: &[u8],
+    e: usize,
+    ecap: &[u64],
 ) -> Stock
-    requires table { ⌜ Table n (now start) (now tv) (now off) (now w) (now need) × Sizes n k m (now d) (now dear) (now l) (now g) (now found) (now top) (now lb) (now cap) (now res) × Good n p ⌝ }
+    requires table { ⌜ Table n (now start) (now tv) (now off) (now w) (now need) × Sizes n k m (now d) (now dear) (now l) (now g) (now found) (now top) (now lb) (now cap) (now res) × Good n p × Ceiled n (now start) (now tv) (now off) (now w) (now need) e (now ed) (now edear) (now ecap) ⌝ }
     requires held { ⌜ Held (Found n (now start) (now tv) (now off) (now w) (now need) (now d) (now dear) k (now l) m) k (now g) (now found) (stock .count) (stock .cut) (now top) ⌝ }
     ensures { λ r. ⌜ Gathers n (Fit n (now (start .entry)) (now (tv .entry)) (now (off .entry)) (now (w .entry)) (now (need .entry)) (now (d .entry)) (now (dear .entry)) k (now (l .entry)) m) (Found n (now (start .entry)) (now (tv .entry)) (now (off .entry)) (now (w .entry)) (now (need .entry)) (now (d .entry)) (now (dear .entry)) k (now (l .entry)) m) k (now (d .entry)) (now (dear .entry)) p (now (g .entry)) (now (found .entry)) (stock .count) (stock .cut) (now (top .entry)) (now (g .exit)) (now (found .exit)) (r .count) (r .cut) (now (top .exit)) ⌝ }
 {
@@ -158,6 +171,10 @@ pub fn search(
         lb,
         cap,
         p,
+        ed,
+        edear,
+        e,
+        ecap,
     );
     let ok = c.ok;
     if !ok {
@@ -208,6 +225,10 @@ pub fn search(
         top,
         narrowing::put(n, q, v, b),
         stock,
+        ed,
+        edear,
+        e,
+        ecap,
     );
     search(
         n,
@@ -230,5 +251,9 @@ pub fn search(
         top,
         narrowing::put(n, q, v, 1 - b),
         first,
+        ed,
+        edear,
+        e,
+        ecap,
     )
 }

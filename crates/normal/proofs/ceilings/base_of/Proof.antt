@@ -1,3 +1,4 @@
+-- Invariant: the sum is the base of the variables passed. Measure: the variables left.
 use borrow.Author.Needs.{needs}
 use mathlib.Core.Path.{_≡_, ap₂, _∙_, subst}
 use Prim.Native.Nat.{ℕ, _+_, _*_, _-_, _^_, _≤_}

@@ -1,3 +1,4 @@
+-- What is withheld is the cost with the base, and at most the weight less the need (ceiling-one).
 use mathlib.Core.Path.{refl}
 use native.Mathlib.Omega.{arith}
 use Rattle.normal.proofs.CeilingLaws.{ceiling-one, ceiling-set}

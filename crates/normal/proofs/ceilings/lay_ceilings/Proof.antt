@@ -1,3 +1,4 @@
+-- Invariant (CeilingAll): the first ceilings are laid out. Measure: the half rows left.
 use borrow.Author.Needs.{needs}
 use Prim.Native.Nat.{_-_, _≤_}
 use native.Mathlib.Omega.{arith}

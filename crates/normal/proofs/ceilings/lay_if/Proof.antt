@@ -1,3 +1,4 @@
+-- One ceiling more, or as many as before.
 use Prim.Native.Nat.{suc}
 use native.Mathlib.Nat.{mul-le-mul-right, suc-mul}
 use native.Mathlib.Omega.{arith}

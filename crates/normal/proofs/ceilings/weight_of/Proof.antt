@@ -1,3 +1,4 @@
+-- Invariant: the sum is the weight of the terms passed. Measure: the terms left.
 use borrow.Author.Needs.{needs}
 use mathlib.Core.Path.{_≡_, sym, ap, _∙_, subst}
 use Prim.Native.Nat.{ℕ, _+_, _*_, _-_, _≤_}

@@ -1,3 +1,4 @@
+-- Invariant (Withholds): the sides hold what the terms passed withhold. Measure: the terms left.
 use borrow.Author.Needs.{needs}
 use mathlib.Core.Path.{_∙_}
 use Prim.Native.Nat.{_+_, _*_, _-_, _≤_}
