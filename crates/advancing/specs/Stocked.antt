@@ -5,7 +5,7 @@ use mathlib.Core.List.{List}
 use Prim.Native.Nat.{ℕ, _≤_, _<_}
 use lib.ListN.{getD}
 use Rattle.charging.specs.Rows.{bit}
-use Rattle.capping.specs.Caps.{vec, at, Fresh}
+use Rattle.capping.specs.Caps.{vec, Fresh}
 use Rattle.seeking.specs.Stocks.{row, Same, Accounted, Among, Least}
 use Rattle.seeking.specs.Gathers.{Fit, Known, Held}
 

@@ -4,9 +4,9 @@ use mathlib.Core.Path.{_≡_, refl, subst, sym, _∙_}
 use mathlib.Core.Logic.{_⊎_, inl, inr, ⊎-elim}
 use mathlib.Core.Bool.{Bool, true, false}
 use mathlib.Core.List.{List}
-use Prim.Native.Nat.{ℕ, _+_, _-_, _*_, _^_, _≤_, _<_}
+use Prim.Native.Nat.{ℕ, _-_, _*_, _^_, _<_}
 use native.Mathlib.Omega.{arith}
-use lib.ListN.{length, getD}
+use lib.ListN.{length}
 use Rattle.charging.specs.Rows.{bit, Table, Completes, Meets, Costs, Ceiled}
 use Rattle.charging.proofs.SumLaws.{eq-or}
 use Rattle.charging.proofs.ChargeLaws.{reach-up}

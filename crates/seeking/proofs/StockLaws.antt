@@ -3,7 +3,7 @@
 -- falls, since no gathered point came after the old one.
 use mathlib.Core.Path.{_≡_, refl, ap, sym, subst, _∙_}
 use mathlib.Core.Logic.{_⊎_, inl, inr, ⊎-elim}
-use mathlib.Core.Bool.{Bool, true, false}
+use mathlib.Core.Bool.{Bool, true}
 use mathlib.Core.List.{List}
 use Prim.Native.Nat.{ℕ, zero, suc, _+_, _*_, _≤_, _<_}
 use native.Mathlib.Nat.{not-suc-le-zero, zero-add}
@@ -15,7 +15,7 @@ use Rattle.charging.proofs.SumLaws.{eq-or}
 use Rattle.capping.specs.Caps.{less, at, Free, Fresh}
 use Rattle.capping.proofs.OrderLaws.{lt-or, lex-trans, lex-up, lex-same}
 use Rattle.capping.proofs.CapLaws.{row-in}
-use Rattle.seeking.specs.Stocks.{from, row, Same, Within, Accounted, Limited, Placed, Among, Either, Least, Greatest, Keeps}
+use Rattle.seeking.specs.Stocks.{from, row, Same, Within, Limited, Placed, Among, Either, Least, Greatest, Keeps}
 
 -- ---- less
 
