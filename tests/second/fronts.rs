@@ -27,7 +27,7 @@ pub fn front(entries: &[Entry]) -> Vec<([i64; 4], u64)> {
 }
 
 /// A small instance: few variables, costs of several sizes and signs, rows of every kind.
-fn small(r: &mut Rng) -> Vec<Entry> {
+pub fn small(r: &mut Rng) -> Vec<Entry> {
     let n = if r.chance(12) { 8 } else { 1 + r.below(5) } as i64;
     let size = r.pick(&[2, 5, 12, 1_000_001]);
     let part = |r: &mut Rng, most: u64| -> Vec<(i64, i64)> {

@@ -1,5 +1,6 @@
 //! Compares the library with a second implementation of document 01 on many inputs with fixed seeds.
-//! Lent memory is compared whole, with guard values beyond the rooms. Arguments: COUNT (comparisons of each operation), SEED.
+//! Lent memory is compared whole, with guard values beyond the rooms. Arguments: COUNT (comparisons of each operation), SEED, and the
+//! listing program, which is run on one text for every 25 comparisons.
 //! Prints how often each operation and each refusal was reached, and fails if one never was.
 
 mod doc01;
@@ -9,6 +10,7 @@ mod filing;
 mod fronts;
 mod inputs;
 mod library;
+mod program;
 
 use inputs::Rng;
 use std::collections::BTreeMap;
@@ -110,7 +112,8 @@ fn compare_judge(r: &mut Rng, reached: &mut Reached) {
 }
 
 fn main() {
-    let args: Vec<u64> = std::env::args().skip(1).map(|a| a.parse().expect("a number")).collect();
+    let args: Vec<u64> = std::env::args().skip(1).take(2).map(|a| a.parse().expect("a number")).collect();
+    let listing = std::env::args().nth(3);
     let count = args.first().copied().unwrap_or(50_000);
     let mut r = Rng(args.get(1).copied().unwrap_or(1).wrapping_mul(0x9E37_79B9_7F4A_7C15) | 1);
     let mut reached = Reached::new();
@@ -137,7 +140,7 @@ fn main() {
         filing::compare_write(&mut r, &mut reached, round);
         filing::compare_read(&mut r, &mut reached, round);
     }
-    let wanted: &[(&str, &[u32])] = &[
+    let mut wanted: Vec<(&str, &[u32])> = vec![
         ("read", &[0, 1, 2, 3, 4, 5, 6, 7, 8, 9]),
         ("write", &[0, 10, 13]),
         ("judge", &[0, 10, 12]),
@@ -147,8 +150,15 @@ fn main() {
         ("read file, the head named", &[16, 17]),
         ("read file, a later block named", &[16, 17]),
     ];
+    if let Some(program) = listing {
+        program::known(&mut reached, &program);
+        for _ in 0..count / 25 {
+            program::compare(&mut r, &mut reached, &program);
+        }
+        wanted.push(("program", &[0, 2, 3, 4, 5, 6, 7, 8, 9, 11]));
+    }
     let mut missed = 0;
-    for (operation, refusals) in wanted {
+    for (operation, refusals) in &wanted {
         for k in *refusals {
             let times = reached.get(&(*operation, *k)).copied().unwrap_or(0);
             println!("{operation} {} {times}", if *k == 0 { "done".to_string() } else { format!("refusal {k}") });
