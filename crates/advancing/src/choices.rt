@@ -74,6 +74,7 @@ pub fn gather(
     edear: &[u8],
     e: usize,
     ecap: &[u64],
+    hint: &[u64],
 ) -> Choice
     requires table { ⌜ Table n (now start) (now tv) (now off) (now w) (now need) × Sizes n k m (now d) (now dear) (now l) (now g) (now found) (now top) (now lb) (now cap) (now res) × (k ≤ length (now costs)) × Ceiled n (now start) (now tv) (now off) (now w) (now need) e (now ed) (now edear) (now ecap) ⌝ }
     ensures { λ r. ⌜ Ready n (now (start .entry)) (now (tv .entry)) (now (off .entry)) (now (w .entry)) (now (need .entry)) (now (d .entry)) (now (dear .entry)) k (now (l .entry)) m (now (g .exit)) (now (found .exit)) (r .stock .count) (r .stock .cut) (now (top .exit)) (r .place) (at (now (costs .exit))) ⌝ }
@@ -108,6 +109,7 @@ pub fn gather(
         edear,
         e,
         ecap,
+        hint,
     );
     let count = got.count;
     if count == 0 {
@@ -150,6 +152,7 @@ pub fn choose(
     edear: &[u8],
     e: usize,
     ecap: &[u64],
+    hint: &[u64],
 ) -> Choice
     requires table { ⌜ Table n (now start) (now tv) (now off) (now w) (now need) × Sizes n k m (now d) (now dear) (now l) (now g) (now found) (now top) (now lb) (now cap) (now res) × (k ≤ length (now costs)) × Ceiled n (now start) (now tv) (now off) (now w) (now need) e (now ed) (now edear) (now ecap) ⌝ }
     requires stocked { ⌜ Stocked n (now start) (now tv) (now off) (now w) (now need) (now d) (now dear) k (now l) m (now g) (now found) (stock .count) (stock .cut) (now top) ⌝ }
@@ -193,6 +196,7 @@ pub fn choose(
             edear,
             e,
             ecap,
+            hint,
         );
     }
     Choice {

@@ -56,6 +56,7 @@ pub fn next_point(
     edear: &[u8],
     e: usize,
     ecap: &[u64],
+    hint: &[u64],
 ) -> Advance
     requires table { ⌜ Table n (now start) (now tv) (now off) (now w) (now need) × Sizes n k m (now d) (now dear) (now l) (now g) (now found) (now top) (now lb) (now cap) (now res) × (k ≤ length (now costs)) × Ceiled n (now start) (now tv) (now off) (now w) (now need) e (now ed) (now edear) (now ecap) ⌝ }
     requires stocked { ⌜ Stocked n (now start) (now tv) (now off) (now w) (now need) (now d) (now dear) k (now l) m (now g) (now found) (stock .count) (stock .cut) (now top) ⌝ }
@@ -87,6 +88,7 @@ pub fn next_point(
         edear,
         e,
         ecap,
+        hint,
     );
     let kept = r.stock;
     let count = kept.count;
@@ -113,6 +115,7 @@ pub fn next_point(
         order,
         res,
         known,
+        hint,
     );
     Advance {
         ok: true,

@@ -3,6 +3,7 @@
 // caps(.., l, m, g, c, have, top, p, lb, cap)   charged lower bounds in lb; in cap, caps for all that is wanted below p; or that nothing is
 //
 // Points: the k numbers of point q begin at q * k, in l if it is listed and in g if it is gathered. Read specs/Caps.antt; proofs/CapLaws.antt has the argument.
+use forcing::Cap;
 use narrowing::Part;
 ghost use mathlib.Core.Path.{_≡_};
 ghost use mathlib.Core.Logic.{_⊎_};
@@ -106,6 +107,7 @@ pub fn charges(
     res: &mut [u64],
     lb: &mut [u64],
     cap: &mut [u64],
+    hint: &[u64],
 )
     requires { ⌜ Table n (now start) (now tv) (now off) (now w) (now need) × ((i : ℕ) → i < k → Costs n (now d) (now dear) (i * n)) × (n ≤ length (now res)) × (k ≤ length (now lb)) × (k ≤ length (now cap)) ⌝ }
     ensures { λ _. ⌜ Low n (now (start .entry)) (now (tv .entry)) (now (off .entry)) (now (w .entry)) (now (need .entry)) (now (d .entry)) (now (dear .entry)) k p (now (lb .exit)) (now (cap .exit)) ⌝ }
@@ -125,8 +127,9 @@ pub fn charges(
             p.set,
             p.one,
             res,
+            hint,
         );
-        cap[i] = 1099511627776;
+        cap[i] = Cap::NONE;
         i += 1;
     }
 }
@@ -152,11 +155,27 @@ pub fn caps(
     res: &mut [u64],
     lb: &mut [u64],
     cap: &mut [u64],
+    hint: &[u64],
 ) -> bool
     requires { ⌜ Table n (now start) (now tv) (now off) (now w) (now need) × ((i : ℕ) → i < k → Costs n (now d) (now dear) (i * n)) × (n ≤ length (now res)) × (k ≤ length (now lb)) × (k ≤ length (now cap)) × (m * k ≤ length (now l)) × (c * k ≤ length (now g)) × (k ≤ length (now top)) ⌝ }
     ensures { λ r. ⌜ Capped n (λ (x : ℕ → ℕ). Sought k (now (l .entry)) m (now (g .entry)) c have (now (top .entry)) (vec n (now (d .entry)) (now (dear .entry)) x) × Meets (now (start .entry)) (now (tv .entry)) (now (off .entry)) (now (w .entry)) (now (need .entry)) x) (now (d .entry)) (now (dear .entry)) k p (now (cap .exit)) r ⌝ }
 {
-    charges(n, start, tv, off, w, need, d, dear, k, p, res, lb, cap);
+    charges(
+        n,
+        start,
+        tv,
+        off,
+        w,
+        need,
+        d,
+        dear,
+        k,
+        p,
+        res,
+        lb,
+        cap,
+        hint,
+    );
     let ok = ahead_if(have, k, &*lb, top, cap);
     if !ok {
         return false;

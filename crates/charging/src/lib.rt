@@ -4,14 +4,20 @@
 // reach(..)            the greatest left side of a row that is still in reach
 // sure(..)             the cost of the variables that are set
 // charge(.., res)      a lower bound of the cost, and in `res` what each variable may still be charged
+// turn, alone, choice  hints on the order of rows and on those that are met already
 //
 // The tables, lent by the caller. Half rows, one after the other: row h has the terms from start[h] to start[h + 1], and needs need[h]; term k
 // gives w[k] unless its variable tv[k] stands at off[k]. Objectives: the n numbers of objective i begin at o = i * n; variable v costs d[o + v] where
 // it stands at dear[o + v]. A partial assignment is two words: `set` has the variables that are set, `one` those at 1.
 // All numbers are unsigned. Read specs/Rows.antt; proofs/ChargeLaws.antt has the argument.
+mod hints;
 mod sides;
 mod terms;
 
+pub use hints::alone;
+pub use hints::choice;
+pub use hints::mark;
+pub use hints::turn;
 pub use sides::hits;
 pub use sides::look;
 pub use sides::lower;
@@ -42,16 +48,26 @@ pub fn sure(n: usize, d: &[u64], dear: &[u8], o: usize, set: u64, one: u64) -> u
     sum
 }
 
-// What is left to charge at the start.
-pub fn owed(n: usize, d: &[u64], o: usize, set: u64, one: u64, res: &mut [u64])
+// What is left to charge at the start; answers the variables where that is nothing, a hint.
+pub fn owed(n: usize, d: &[u64], o: usize, set: u64, one: u64, res: &mut [u64]) -> u64
     requires { ⌜ (o + n ≤ length (now d)) × (n ≤ 64) × (n ≤ length (now res)) ⌝ }
     ensures { λ _. ⌜ Owed n (seen set one) (now (d .entry)) o (now (res .exit)) ⌝ }
 {
+    let mut free: u64 = 0;
     let mut v = 0;
     while v < n {
-        res[v] = owe(look(set, one, v), d[o + v]);
+        let left = owe(look(set, one, v), d[o + v]);
+        res[v] = left;
+        free = mark(free, v, left);
         v += 1;
     }
+    free
+}
+
+// What was charged, and the variables where nothing is left to charge since, a hint.
+pub struct Taken {
+    pub by: u64,
+    pub free: u64,
 }
 
 // Charges row h, if it needs a dear side.
@@ -69,19 +85,48 @@ pub fn charge_row(
     one: u64,
     res: &mut [u64],
     h: usize,
-) -> u64
+) -> Taken
     requires { ⌜ Table n (now start) (now tv) (now off) (now w) (now need) × Costs n (now d) (now dear) o × (n ≤ length (now res)) × (h < length (now need)) ⌝ }
-    ensures { λ r. ⌜ Step n (now (start .entry)) (now (tv .entry)) (now (off .entry)) (now (w .entry)) (now (need .entry)) (seen set one) (now (dear .entry)) o (now (res .entry)) (now (res .exit)) r ⌝ }
+    ensures { λ r. ⌜ Step n (now (start .entry)) (now (tv .entry)) (now (off .entry)) (now (w .entry)) (now (need .entry)) (seen set one) (now (dear .entry)) o (now (res .entry)) (now (res .exit)) (r .by) ⌝ }
 {
     let a = start[h];
     let many = start[h + 1] - a;
     let t = need[h];
     if covered(n, tv, off, w, set, one, dear, o, &*res, a, many, t) {
-        return 0;
+        return Taken { by: 0, free: 0 };
     }
     let m = least(n, tv, off, w, dear, o, &*res, a, many);
-    pay(n, tv, off, w, dear, o, res, a, many, m);
-    m
+    let free = pay(n, tv, off, w, dear, o, res, a, many, m);
+    Taken { by: m, free: free }
+}
+
+// Charges the i-th row, unless it is met by a variable that is set, or by a free one.
+pub fn charge_turn(
+    n: usize,
+    start: &[usize],
+    tv: &[usize],
+    off: &[u8],
+    w: &[u64],
+    need: &[u64],
+    d: &[u64],
+    dear: &[u8],
+    o: usize,
+    set: u64,
+    one: u64,
+    res: &mut [u64],
+    i: usize,
+    free: u64,
+    hint: &[u64],
+) -> Taken
+    requires { ⌜ Table n (now start) (now tv) (now off) (now w) (now need) × Costs n (now d) (now dear) o × (n ≤ length (now res)) × (i < length (now need)) ⌝ }
+    ensures { λ r. ⌜ Step n (now (start .entry)) (now (tv .entry)) (now (off .entry)) (now (w .entry)) (now (need .entry)) (seen set one) (now (dear .entry)) o (now (res .entry)) (now (res .exit)) (r .by) ⌝ }
+{
+    let loose = free & !set;
+    if alone(hint, i, one | loose, (set ^ one) | loose) {
+        return Taken { by: 0, free: 0 };
+    }
+    let h = turn(hint, i, need.len());
+    charge_row(n, start, tv, off, w, need, d, dear, o, set, one, res, h)
 }
 
 // A lower bound of the cost of every completion that meets the rows, and what is left to charge.
@@ -98,16 +143,35 @@ pub fn charge(
     set: u64,
     one: u64,
     res: &mut [u64],
+    hint: &[u64],
 ) -> u64
     requires { ⌜ Table n (now start) (now tv) (now off) (now w) (now need) × Costs n (now d) (now dear) o × (n ≤ length (now res)) ⌝ }
     ensures { λ r. ⌜ Charged n (now (start .entry)) (now (tv .entry)) (now (off .entry)) (now (w .entry)) (now (need .entry)) (seen set one) (now (d .entry)) (now (dear .entry)) o r (now (res .exit)) ⌝ }
 {
-    owed(n, d, o, set, one, res);
+    let mut free = owed(n, d, o, set, one, res);
     let mut b = sure(n, d, dear, o, set, one);
-    let mut h = 0;
-    while h < need.len() {
-        b += charge_row(n, start, tv, off, w, need, d, dear, o, set, one, res, h);
-        h += 1;
+    let mut i = 0;
+    while i < need.len() {
+        let c = charge_turn(
+            n,
+            start,
+            tv,
+            off,
+            w,
+            need,
+            d,
+            dear,
+            o,
+            set,
+            one,
+            res,
+            i,
+            free,
+            hint,
+        );
+        b += c.by;
+        free = free | c.free;
+        i += 1;
     }
     b
 }

@@ -1,4 +1,5 @@
 // The terms of one row: what they can reach, what they give without a charge, and charging them.
+use crate::hints::mark;
 use crate::sides::look;
 use crate::sides::lower;
 use crate::sides::missed;
@@ -93,7 +94,7 @@ pub fn least(
     m
 }
 
-// Takes m off what is left to charge at each chargeable term.
+// Takes m off what is left to charge at each chargeable term; answers the variables where nothing is left, a hint.
 pub fn pay(
     n: usize,
     tv: &[usize],
@@ -105,15 +106,19 @@ pub fn pay(
     a: usize,
     many: usize,
     m: u64,
-)
+) -> u64
     requires { ⌜ Terms n (now tv) (now off) (now w) × (a + many ≤ length (now tv)) × (o + n ≤ length (now dear)) × (n ≤ length (now res)) ⌝ }
     ensures { λ _. ⌜ Paid n (now (tv .entry)) (now (off .entry)) (now (dear .entry)) o a many m (now (res .entry)) (now (res .exit)) ⌝ }
 {
+    let mut free: u64 = 0;
     let mut j = 0;
     while j < many {
         let k = a + j;
         let v = tv[k];
-        res[v] = paid(m, off[k], dear[o + v], res[v]);
+        let left = paid(m, off[k], dear[o + v], res[v]);
+        res[v] = left;
+        free = mark(free, v, left);
         j += 1;
     }
+    free
 }

@@ -99,11 +99,12 @@ pub fn find(
     order: &[usize],
     res: &mut [u64],
     p: Part,
+    hint: &[u64],
 ) -> Cut
     requires { ⌜ Table n (now start) (now tv) (now off) (now w) (now need) × Objectives n k (now d) (now dear) (now caps) × (n ≤ length (now res)) × Good n p ⌝ }
     ensures { λ r. ⌜ Finds n (Wanted n (now (start .entry)) (now (tv .entry)) (now (off .entry)) (now (w .entry)) (now (need .entry)) (now (d .entry)) (now (dear .entry)) k (now (caps .entry))) p (r .ok) (r .part) ⌝ }
 {
-    let c = forcing::reduce(n, start, tv, off, w, need, d, dear, k, caps, res, p);
+    let c = forcing::reduce(n, start, tv, off, w, need, d, dear, k, caps, res, p, hint);
     let ok = c.ok;
     if !ok {
         return c;
@@ -129,6 +130,7 @@ pub fn find(
         order,
         res,
         narrowing::put(n, q, v, b),
+        hint,
     );
     let got = first.ok;
     if got {
@@ -148,5 +150,6 @@ pub fn find(
         order,
         res,
         narrowing::put(n, q, v, 1 - b),
+        hint,
     )
 }

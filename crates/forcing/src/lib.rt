@@ -13,6 +13,16 @@ ghost use Rattle.charging.specs.Rows.{left, Table, Costs};
 ghost use Rattle.narrowing.specs.Parts.{Good, Cuts, Maybe};
 ghost use Rattle.forcing.specs.Goals.{Objectives, Under, Wanted};
 
+// A cap on an objective.
+pub struct Cap {
+    pub most: u64,
+}
+
+impl Cap {
+    // The cap of an objective that has none: above every cost, so that charging is spared.
+    pub const NONE: u64 = 1099511627776;
+}
+
 // Sets v to its cheap side, where its dear side would cost too much.
 pub fn bar(n: usize, dear: &[u8], o: usize, v: usize, lim: u64, res: &[u64], p: Part) -> Part
     requires { ⌜ Good n p × (v < n) × (n ≤ 64) × (o + n ≤ length (now dear)) × (n ≤ length (now res)) × (getD (now dear) (o + v) 0 < 2) ⌝ }
@@ -42,11 +52,29 @@ pub fn force(
     cap: u64,
     res: &mut [u64],
     p: Part,
+    hint: &[u64],
 ) -> Cut
     requires { ⌜ Table n (now start) (now tv) (now off) (now w) (now need) × Costs n (now d) (now dear) o × (n ≤ length (now res)) × Good n p ⌝ }
     ensures { λ r. ⌜ Cuts n (Under n (now (start .entry)) (now (tv .entry)) (now (off .entry)) (now (w .entry)) (now (need .entry)) (now (d .entry)) (now (dear .entry)) o cap) p (r .ok) (r .part) ⌝ }
 {
-    let b = charging::charge(n, start, tv, off, w, need, d, dear, o, p.set, p.one, res);
+    if Cap::NONE <= cap {
+        return Cut { ok: true, part: p };
+    }
+    let b = charging::charge(
+        n,
+        start,
+        tv,
+        off,
+        w,
+        need,
+        d,
+        dear,
+        o,
+        p.set,
+        p.one,
+        res,
+        hint,
+    );
     if cap < b {
         return Cut { ok: false, part: p };
     }
@@ -74,6 +102,7 @@ pub fn forces(
     caps: &[u64],
     res: &mut [u64],
     p: Part,
+    hint: &[u64],
 ) -> Cut
     requires { ⌜ Table n (now start) (now tv) (now off) (now w) (now need) × Objectives n k (now d) (now dear) (now caps) × (n ≤ length (now res)) × Good n p ⌝ }
     ensures { λ r. ⌜ Cuts n (Wanted n (now (start .entry)) (now (tv .entry)) (now (off .entry)) (now (w .entry)) (now (need .entry)) (now (d .entry)) (now (dear .entry)) k (now (caps .entry))) p (r .ok) (r .part) ⌝ }
@@ -81,7 +110,21 @@ pub fn forces(
     let mut q = p;
     let mut i = 0;
     while i < k {
-        let c = force(n, start, tv, off, w, need, d, dear, i * n, caps[i], res, q);
+        let c = force(
+            n,
+            start,
+            tv,
+            off,
+            w,
+            need,
+            d,
+            dear,
+            i * n,
+            caps[i],
+            res,
+            q,
+            hint,
+        );
         let ok = c.ok;
         if !ok {
             return c;
@@ -106,6 +149,7 @@ pub fn reduce(
     caps: &[u64],
     res: &mut [u64],
     p: Part,
+    hint: &[u64],
 ) -> Cut
     requires { ⌜ Table n (now start) (now tv) (now off) (now w) (now need) × Objectives n k (now d) (now dear) (now caps) × (n ≤ length (now res)) × Good n p ⌝ }
     ensures { λ r. ⌜ Cuts n (Wanted n (now (start .entry)) (now (tv .entry)) (now (off .entry)) (now (w .entry)) (now (need .entry)) (now (d .entry)) (now (dear .entry)) k (now (caps .entry))) p (r .ok) (r .part) ⌝ }
@@ -113,12 +157,26 @@ pub fn reduce(
     let mut q = p;
     loop {
         let before = q.left;
-        let c = narrowing::pass(n, start, tv, off, w, need, q);
+        let c = narrowing::pass(n, start, tv, off, w, need, q, hint);
         let ok = c.ok;
         if !ok {
             return c;
         }
-        let e = forces(n, start, tv, off, w, need, d, dear, k, caps, res, c.part);
+        let e = forces(
+            n,
+            start,
+            tv,
+            off,
+            w,
+            need,
+            d,
+            dear,
+            k,
+            caps,
+            res,
+            c.part,
+            hint,
+        );
         let fine = e.ok;
         if !fine {
             return e;

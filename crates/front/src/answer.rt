@@ -2,6 +2,8 @@
 use crate::listing::Outcome;
 use crate::listing::list_points;
 use crate::order::by_share;
+use crate::turns::Turn;
+use crate::turns::by_length;
 use instance::Checked;
 use instance::Instance;
 use instance::Term;
@@ -73,6 +75,7 @@ fn list_instance(
     let mut sides = [0u8; Filled::GAPS];
     let mut tops = [0u64; Ceiling::MAX_COUNT];
     let mut order = [0usize; Term::MAX_VARIABLE as usize];
+    let mut hint = [0u64; Filled::HALVES * Turn::NUMBERS];
     let filled = lay_rows(
         terms,
         rows,
@@ -101,6 +104,15 @@ fn list_instance(
     );
     let above = e * n;
     by_share(n, &gaps[..numbers], k, &mut order);
+    by_length(
+        n,
+        &starts[..halves + 1],
+        &variables[..used],
+        &offs[..used],
+        &weights[..used],
+        &needs[..halves],
+        &mut hint,
+    );
     list_points(
         terms,
         rows,
@@ -121,6 +133,7 @@ fn list_instance(
         room,
         values,
         models,
+        &hint[..halves * Turn::NUMBERS],
     )
 }
 

@@ -7,6 +7,7 @@
 // determined, the list is complete, and it is proper.
 // The lister is built on what judging, `normal` and `advancing` promise, and on none of their code.
 mod order; // order.rt: the order of branching, a hint
+mod turns; // turns.rt: the order of rows, a hint
 mod put; // put.rt: one point into the runs
 mod listing; // listing.rt: point after point
 mod answer; // answer.rt: the answer

@@ -50,6 +50,7 @@ pub fn list_points(
     room: usize,
     values: &mut [i64],
     models: &mut [u64],
+    hint: &[u64],
 ) -> Outcome
     requires { ⌜ Normal (now terms) (now rows) n k (now starts) (now variables) (now offs) (now weights) (now needs) (now gaps) (now dears) ⌝ }
     requires { ⌜ (room ≤ maxPoints) × (room * 4 ≤ length (now values)) × (room ≤ length (now models)) ⌝ }
@@ -95,6 +96,7 @@ pub fn list_points(
             sides,
             e,
             tops,
+            hint,
         );
         let more = next.ok;
         if !more {

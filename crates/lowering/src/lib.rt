@@ -33,6 +33,7 @@ pub fn settle(
     res: &mut [u64],
     v: usize,
     known: Known,
+    hint: &[u64],
 ) -> Known
     requires { ⌜ Table n (now start) (now tv) (now off) (now w) (now need) × Objectives n k (now d) (now dear) (now caps) × (n ≤ length (now res)) × (v < n) × Lowered n (Wanted n (now start) (now tv) (now off) (now w) (now need) (now d) (now dear) k (now caps)) (v + 1) (known .part) (known .number) ⌝ }
     ensures { λ r. ⌜ Lowered n (Wanted n (now (start .entry)) (now (tv .entry)) (now (off .entry)) (now (w .entry)) (now (need .entry)) (now (d .entry)) (now (dear .entry)) k (now (caps .entry))) v (r .part) (r .number) ⌝ }
@@ -58,6 +59,7 @@ pub fn settle(
         order,
         res,
         off_part,
+        hint,
     );
     let ok = found.ok;
     if ok {
@@ -89,6 +91,7 @@ pub fn smallest(
     order: &[usize],
     res: &mut [u64],
     a: u64,
+    hint: &[u64],
 ) -> u64
     requires { ⌜ Table n (now start) (now tv) (now off) (now w) (now need) × Objectives n k (now d) (now dear) (now caps) × (n ≤ length (now res)) × Wanted n (now start) (now tv) (now off) (now w) (now need) (now d) (now dear) k (now caps) (bit a) × (a < 2 ^ n) ⌝ }
     ensures { λ r. ⌜ Smallest n (Wanted n (now (start .entry)) (now (tv .entry)) (now (off .entry)) (now (w .entry)) (now (need .entry)) (now (d .entry)) (now (dear .entry)) k (now (caps .entry))) r ⌝ }
@@ -115,6 +118,7 @@ pub fn smallest(
             res,
             v,
             known,
+            hint,
         );
     }
     known.number

@@ -105,6 +105,39 @@ pub fn row(
     Cut { ok: true, part: q }
 }
 
+// What the i-th row forces, if it is not met already and not open to two variables.
+pub fn visit(
+    n: usize,
+    start: &[usize],
+    tv: &[usize],
+    off: &[u8],
+    w: &[u64],
+    need: &[u64],
+    i: usize,
+    p: Part,
+    hint: &[u64],
+) -> Cut
+    requires { ⌜ Table n (now start) (now tv) (now off) (now w) (now need) × Good n p × (i < length (now need)) ⌝ }
+    ensures { λ r. ⌜ Cuts n (Meets (now (start .entry)) (now (tv .entry)) (now (off .entry)) (now (w .entry)) (now (need .entry))) p (r .ok) (r .part) ⌝ }
+{
+    if charging::alone(hint, i, p.one, p.set ^ p.one) {
+        return Cut { ok: true, part: p };
+    }
+    if charging::choice(hint, i, p.set) {
+        return Cut { ok: true, part: p };
+    }
+    row(
+        n,
+        start,
+        tv,
+        off,
+        w,
+        need,
+        charging::turn(hint, i, need.len()),
+        p,
+    )
+}
+
 // What the rows force, one after the other.
 pub fn pass(
     n: usize,
@@ -114,20 +147,21 @@ pub fn pass(
     w: &[u64],
     need: &[u64],
     p: Part,
+    hint: &[u64],
 ) -> Cut
     requires { ⌜ Table n (now start) (now tv) (now off) (now w) (now need) × Good n p ⌝ }
     ensures { λ r. ⌜ Cuts n (Meets (now (start .entry)) (now (tv .entry)) (now (off .entry)) (now (w .entry)) (now (need .entry))) p (r .ok) (r .part) ⌝ }
 {
     let mut q = p;
-    let mut h = 0;
-    while h < need.len() {
-        let c = row(n, start, tv, off, w, need, h, q);
+    let mut i = 0;
+    while i < need.len() {
+        let c = visit(n, start, tv, off, w, need, i, q, hint);
         let ok = c.ok;
         if !ok {
             return c;
         }
         q = c.part;
-        h += 1;
+        i += 1;
     }
     Cut { ok: true, part: q }
 }

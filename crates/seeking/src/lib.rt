@@ -64,6 +64,7 @@ pub fn reduce(
     edear: &[u8],
     e: usize,
     ecap: &[u64],
+    hint: &[u64],
 ) -> Cut
     requires { ⌜ Table n (now start) (now tv) (now off) (now w) (now need) × ((i : ℕ) → i < k → Costs n (now d) (now dear) (i * n)) × (m * k ≤ length (now l)) × (stock .count * k ≤ length (now g)) × (k ≤ length (now top)) × (k ≤ length (now lb)) × (k ≤ length (now cap)) × (n ≤ length (now res)) × Good n p × Ceiled n (now start) (now tv) (now off) (now w) (now need) e (now ed) (now edear) (now ecap) ⌝ }
     ensures { λ r. ⌜ Cuts n (Want n (now (start .entry)) (now (tv .entry)) (now (off .entry)) (now (w .entry)) (now (need .entry)) (now (d .entry)) (now (dear .entry)) k (now (l .entry)) m (now (g .entry)) (stock .count) (stock .cut) (now (top .entry))) p (r .ok) (r .part) ⌝ }
@@ -73,12 +74,26 @@ pub fn reduce(
     let mut q = p;
     loop {
         let before = q.left;
-        let c = narrowing::pass(n, start, tv, off, w, need, q);
+        let c = narrowing::pass(n, start, tv, off, w, need, q, hint);
         let ok = c.ok;
         if !ok {
             return c;
         }
-        let t = forcing::forces(n, start, tv, off, w, need, ed, edear, e, ecap, res, c.part);
+        let t = forcing::forces(
+            n,
+            start,
+            tv,
+            off,
+            w,
+            need,
+            ed,
+            edear,
+            e,
+            ecap,
+            res,
+            c.part,
+            hint,
+        );
         let held = t.ok;
         if !held {
             return t;
@@ -104,11 +119,12 @@ pub fn reduce(
             res,
             lb,
             cap,
+            hint,
         );
         if !fine {
             return Cut { ok: false, part: s };
         }
-        let f = forcing::forces(n, start, tv, off, w, need, d, dear, k, &*cap, res, s);
+        let f = forcing::forces(n, start, tv, off, w, need, d, dear, k, &*cap, res, s, hint);
         let good = f.ok;
         if !good {
             return f;
@@ -147,6 +163,7 @@ pub fn search(
     edear: &[u8],
     e: usize,
     ecap: &[u64],
+    hint: &[u64],
 ) -> Stock
     requires table { ⌜ Table n (now start) (now tv) (now off) (now w) (now need) × Sizes n k m (now d) (now dear) (now l) (now g) (now found) (now top) (now lb) (now cap) (now res) × Good n p × Ceiled n (now start) (now tv) (now off) (now w) (now need) e (now ed) (now edear) (now ecap) ⌝ }
     requires held { ⌜ Held (Found n (now start) (now tv) (now off) (now w) (now need) (now d) (now dear) k (now l) m) k (now g) (now found) (stock .count) (stock .cut) (now top) ⌝ }
@@ -175,6 +192,7 @@ pub fn search(
         edear,
         e,
         ecap,
+        hint,
     );
     let ok = c.ok;
     if !ok {
@@ -229,6 +247,7 @@ pub fn search(
         edear,
         e,
         ecap,
+        hint,
     );
     search(
         n,
@@ -255,5 +274,6 @@ pub fn search(
         edear,
         e,
         ecap,
+        hint,
     )
 }

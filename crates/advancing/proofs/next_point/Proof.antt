@@ -32,16 +32,16 @@ same-length-7 : tie.Need-same-length-7
 same-length-7 c = search needs
 
 returns : tie.Need-returns
-returns c = let s = c .before .before .before .before .before .before .before .before .before .before .before .before .before .before .before .before .before .before .before .before .before .before .before .before .before .before .before .before .before .before .before .before .before .before .before .before .before .before .before .before .before .before .before in let a = s .args in let t = s .pre .0 .0 in let z = s .pre .0 .1 in let r = c .before .before .before .before .before .before .before .before .before .before .before .before .before .before .before .before .choose .ensures in (next-none (a .n) (a .start .now) (a .tv .now) (a .off .now) (a .w .now) (a .need .now) (a .d .now) (a .dear .now) (a .k) (a .l .now) (a .m) _ _ (c .before .before .before .before .before .before .before .before .before .before .before .before .before .before .before .before .choose .result .stock .count) (c .before .before .before .before .before .before .before .before .before .before .before .before .before .before .before .before .choose .result .stock .cut) _ (c .before .before .before .before .before .before .before .before .before .before .before .before .before .before .before .before .choose .result .place) _ r (c .if1 .taken), r .stocked)
+returns c = let s = c .before .before .before .before .before .before .before .before .before .before .before .before .before .before .before .before .before .before .before .before .before .before .before .before .before .before .before .before .before .before .before .before .before .before .before .before .before .before .before .before .before .before .before .before in let a = s .args in let t = s .pre .0 .0 in let z = s .pre .0 .1 in let r = c .before .before .before .before .before .before .before .before .before .before .before .before .before .before .before .before .choose .ensures in (next-none (a .n) (a .start .now) (a .tv .now) (a .off .now) (a .w .now) (a .need .now) (a .d .now) (a .dear .now) (a .k) (a .l .now) (a .m) _ _ (c .before .before .before .before .before .before .before .before .before .before .before .before .before .before .before .before .choose .result .stock .count) (c .before .before .before .before .before .before .before .before .before .before .before .before .before .before .before .before .choose .result .stock .cut) _ (c .before .before .before .before .before .before .before .before .before .before .before .before .before .before .before .before .choose .result .place) _ r (c .if1 .taken), r .stocked)
 
 mul-known : tie.Need-mul-known
-mul-known c = let s = c .before .before .before .before .before .before .before .before .before .before .before .before .before .before .before .before .before .before .before .before .before .before .before .before .before .before .before .before .before .before .before .before .before .before .before .before .before .before .before .before .before .before .before in let a = s .args in let t = s .pre .0 .0 in let z = s .pre .0 .1 in let r = c .before .before .before .before .before .before .before .before .before .before .before .before .before .before .before .before .choose .ensures in let some : 1 ≤ c .before .before .before .before .before .before .before .before .before .before .before .before .before .before .before .before .choose .result .stock .count = omega (arith, c .if1 .left) in let q = r .chosen .inside some in let v = r .stocked .held .room in let kn = s .good .1 .1 .1 .1 .1 .1 .1 .1 .1 .1 .1 .1 .1 .1 .1 .1 .0 .1 in let kf = c .before .before .before .before .before .before .before .before .before .before .before .before .before .before .before .before .choose .kept .1 .1 .1 .1 .1 .1 .1 .1 .1 .1 .1 .1 .1 .1 .1 .1 .0 in omega (arith, q, v, kn, kf)
+mul-known c = let s = c .before .before .before .before .before .before .before .before .before .before .before .before .before .before .before .before .before .before .before .before .before .before .before .before .before .before .before .before .before .before .before .before .before .before .before .before .before .before .before .before .before .before .before .before in let a = s .args in let t = s .pre .0 .0 in let z = s .pre .0 .1 in let r = c .before .before .before .before .before .before .before .before .before .before .before .before .before .before .before .before .choose .ensures in let some : 1 ≤ c .before .before .before .before .before .before .before .before .before .before .before .before .before .before .before .before .choose .result .stock .count = omega (arith, c .if1 .left) in let q = r .chosen .inside some in let v = r .stocked .held .room in let kn = s .good .1 .1 .1 .1 .1 .1 .1 .1 .1 .1 .1 .1 .1 .1 .1 .1 .0 .1 in let kf = c .before .before .before .before .before .before .before .before .before .before .before .before .before .before .before .before .choose .kept .1 .1 .1 .1 .1 .1 .1 .1 .1 .1 .1 .1 .1 .1 .1 .1 .0 in omega (arith, q, v, kn, kf)
 
 slice-read-known : tie.Need-slice-read-known
-slice-read-known c = let s = c .before .before .before .before .before .before .before .before .before .before .before .before .before .before .before .before .before .before .before .before .before .before .before .before .before .before .before .before .before .before .before .before .before .before .before .before .before .before .before .before .before .before .before .before in let a = s .args in let t = s .pre .0 .0 in let z = s .pre .0 .1 in let r = c .before .before .before .before .before .before .before .before .before .before .before .before .before .before .before .before .before .choose .ensures in let some : 1 ≤ c .before .before .before .before .before .before .before .before .before .before .before .before .before .before .before .before .before .choose .result .stock .count = omega (arith, c .before .if1 .left) in let q = r .chosen .inside some in let v = r .stocked .held .room in omega (arith, q, v)
+slice-read-known c = let s = c .before .before .before .before .before .before .before .before .before .before .before .before .before .before .before .before .before .before .before .before .before .before .before .before .before .before .before .before .before .before .before .before .before .before .before .before .before .before .before .before .before .before .before .before .before in let a = s .args in let t = s .pre .0 .0 in let z = s .pre .0 .1 in let r = c .before .before .before .before .before .before .before .before .before .before .before .before .before .before .before .before .before .choose .ensures in let some : 1 ≤ c .before .before .before .before .before .before .before .before .before .before .before .before .before .before .before .before .before .choose .result .stock .count = omega (arith, c .before .if1 .left) in let q = r .chosen .inside some in let v = r .stocked .held .room in omega (arith, q, v)
 
 smallest-requires : tie.Need-smallest-requires
-smallest-requires c κs = let s = c .before .before .before .before .before .before .before .before .before .before .before .before .before .before .before .before .before .before .before .before .before .before .before .before .before .before .before .before .before .before .before .before .before .before .before .before .before .before .before .before .before .before .before .before .before .before in let a = s .args in let t = s .pre .0 .0 in let z = s .pre .0 .1 in let r = c .before .before .before .before .before .before .before .before .before .before .before .before .before .before .before .before .before .before .before .choose .ensures in let some : 1 ≤ c .before .before .before .before .before .before .before .before .before .before .before .before .before .before .before .before .before .before .before .choose .result .stock .count = omega (arith, c .before .before .before .if1 .left) in let kr = c .before .before .before .before .before .before .before .before .before .before .before .before .before .before .before .before .before .before .before .choose .kept .1 .1 .1 .1 .1 .1 .1 .1 .1 .1 .1 .1 .0 in let kc = c .before .before .before .before .before .before .before .before .before .before .before .before .before .before .before .before .before .before .before .choose .kept .1 .1 .1 .1 .1 .1 .1 .1 .1 .1 .1 .1 .1 .1 .1 .1 .1 .1 .0 in (t, record { each = z .room .costs; room = omega (arith, kc, s .pre .0 .2) }, omega (arith, kr, z .ress), next-wanted (a .n) (a .start .now) (a .tv .now) (a .off .now) (a .w .now) (a .need .now) (a .d .now) (a .dear .now) (a .k) (a .l .now) (a .m) _ _ (c .before .before .before .before .before .before .before .before .before .before .before .before .before .before .before .before .before .before .before .choose .result .stock .count) (c .before .before .before .before .before .before .before .before .before .before .before .before .before .before .before .before .before .before .before .choose .result .stock .cut) _ (c .before .before .before .before .before .before .before .before .before .before .before .before .before .before .before .before .before .before .before .choose .result .place) _ r some, r .stocked .held .each (c .before .before .before .before .before .before .before .before .before .before .before .before .before .before .before .before .before .before .before .choose .result .place) (r .chosen .inside some) .fits)
+smallest-requires c κs = let s = c .before .before .before .before .before .before .before .before .before .before .before .before .before .before .before .before .before .before .before .before .before .before .before .before .before .before .before .before .before .before .before .before .before .before .before .before .before .before .before .before .before .before .before .before .before .before .before in let a = s .args in let t = s .pre .0 .0 in let z = s .pre .0 .1 in let r = c .before .before .before .before .before .before .before .before .before .before .before .before .before .before .before .before .before .before .before .choose .ensures in let some : 1 ≤ c .before .before .before .before .before .before .before .before .before .before .before .before .before .before .before .before .before .before .before .choose .result .stock .count = omega (arith, c .before .before .before .if1 .left) in let kr = c .before .before .before .before .before .before .before .before .before .before .before .before .before .before .before .before .before .before .before .choose .kept .1 .1 .1 .1 .1 .1 .1 .1 .1 .1 .1 .1 .0 in let kc = c .before .before .before .before .before .before .before .before .before .before .before .before .before .before .before .before .before .before .before .choose .kept .1 .1 .1 .1 .1 .1 .1 .1 .1 .1 .1 .1 .1 .1 .1 .1 .1 .1 .0 in (t, record { each = z .room .costs; room = omega (arith, kc, s .pre .0 .2) }, omega (arith, kr, z .ress), next-wanted (a .n) (a .start .now) (a .tv .now) (a .off .now) (a .w .now) (a .need .now) (a .d .now) (a .dear .now) (a .k) (a .l .now) (a .m) _ _ (c .before .before .before .before .before .before .before .before .before .before .before .before .before .before .before .before .before .before .before .choose .result .stock .count) (c .before .before .before .before .before .before .before .before .before .before .before .before .before .before .before .before .before .before .before .choose .result .stock .cut) _ (c .before .before .before .before .before .before .before .before .before .before .before .before .before .before .before .before .before .before .before .choose .result .place) _ r some, r .stocked .held .each (c .before .before .before .before .before .before .before .before .before .before .before .before .before .before .before .before .before .before .before .choose .result .place) (r .chosen .inside some) .fits)
 
 same-length-8 : tie.Need-same-length-8
 same-length-8 c = search needs
@@ -65,7 +65,7 @@ same-length-14 : tie.Need-same-length-14
 same-length-14 c = search needs
 
 returns-2 : tie.Need-returns-2
-returns-2 c = let s = c .before .before .before .before .before .before .before .before .before .before .before .before .before .before .before .before .before .before .before .before .before .before .before .before .before .before .before .before .before .before .before .before .before .before .before .before .before .before .before .before .before .before .before .before .before .before .before .before .before in let a = s .args in let t = s .pre .0 .0 in let z = s .pre .0 .1 in let r = c .before .before .before .before .before .before .before .before .before .before .before .before .before .before .before .before .before .before .before .before .before .before .choose .ensures in let some : 1 ≤ c .before .before .before .before .before .before .before .before .before .before .before .before .before .before .before .before .before .before .before .before .before .before .choose .result .stock .count = omega (arith, c .before .before .before .before .before .before .if1 .left) in (next-some (a .n) (a .start .now) (a .tv .now) (a .off .now) (a .w .now) (a .need .now) (a .d .now) (a .dear .now) (a .k) (a .l .now) (a .m) _ _ (c .before .before .before .before .before .before .before .before .before .before .before .before .before .before .before .before .before .before .before .before .before .before .choose .result .stock .count) (c .before .before .before .before .before .before .before .before .before .before .before .before .before .before .before .before .before .before .before .before .before .before .choose .result .stock .cut) _ (c .before .before .before .before .before .before .before .before .before .before .before .before .before .before .before .before .before .before .before .before .before .before .choose .result .place) _ r some (c .before .before .smallest .result) (c .before .before .smallest .ensures), r .stocked)
+returns-2 c = let s = c .before .before .before .before .before .before .before .before .before .before .before .before .before .before .before .before .before .before .before .before .before .before .before .before .before .before .before .before .before .before .before .before .before .before .before .before .before .before .before .before .before .before .before .before .before .before .before .before .before .before in let a = s .args in let t = s .pre .0 .0 in let z = s .pre .0 .1 in let r = c .before .before .before .before .before .before .before .before .before .before .before .before .before .before .before .before .before .before .before .before .before .before .choose .ensures in let some : 1 ≤ c .before .before .before .before .before .before .before .before .before .before .before .before .before .before .before .before .before .before .before .before .before .before .choose .result .stock .count = omega (arith, c .before .before .before .before .before .before .if1 .left) in (next-some (a .n) (a .start .now) (a .tv .now) (a .off .now) (a .w .now) (a .need .now) (a .d .now) (a .dear .now) (a .k) (a .l .now) (a .m) _ _ (c .before .before .before .before .before .before .before .before .before .before .before .before .before .before .before .before .before .before .before .before .before .before .choose .result .stock .count) (c .before .before .before .before .before .before .before .before .before .before .before .before .before .before .before .before .before .before .before .before .before .before .choose .result .stock .cut) _ (c .before .before .before .before .before .before .before .before .before .before .before .before .before .before .before .before .before .before .before .before .before .before .choose .result .place) _ r some (c .before .before .smallest .result) (c .before .before .smallest .ensures), r .stocked)
 
 pub next-point-spec : {M : Type 1} → statement M
 next-point-spec =

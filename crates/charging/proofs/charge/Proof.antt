@@ -11,34 +11,34 @@ use Rattle.charging.proofs.charge.Statement.{statement}
 use Rattle.charging.proofs.charge.Tie as tie
 
 abbrev Inv-loop : tie.InvT-loop
-Inv-loop n start tv off w need d dear o set one res₀ b₀ h₀ res b h = (h ≤ length need) × (length res ≡ length res₀) × (b ≤ 64 * 2 ^ 34 + h * 2 ^ 34) × Charged n start tv off w need (seen set one) d dear o b res
+Inv-loop n start tv off w need d dear o set one res₀ hint free₀ b₀ i₀ res free b i = (i ≤ length need) × (length res ≡ length res₀) × (b ≤ 64 * 2 ^ 34 + i * 2 ^ 34) × Charged n start tv off w need (seen set one) d dear o b res
 
 abbrev μ-loop : tie.MeasureT-loop
-μ-loop n start tv off w need d dear o set one res₀ b₀ h₀ res b h = length need - h
+μ-loop n start tv off w need d dear o set one res₀ hint free₀ b₀ i₀ res free b i = length need - i
 
 owed-requires : tie.Need-owed-requires Inv-loop μ-loop
-owed-requires c κs = let s = c .before .before .before .before .before .before .before .before .before in let a = s .args in let t = s .pre .0 in let q = s .pre .1 in (q .long, t .terms .few, s .pre .2)
+owed-requires c κs = let s = c .before .before .before .before .before .before .before .before .before .before in let a = s .args in let t = s .pre .0 in let q = s .pre .1 in (q .long, t .terms .few, s .pre .2)
 
 sure-requires : tie.Need-sure-requires Inv-loop μ-loop
-sure-requires c κs = let s = c .before .before .before .before .before .before .before .before .before .before .before .before in let a = s .args in let t = s .pre .0 in let q = s .pre .1 in (q, t .terms .few)
+sure-requires c κs = let s = c .before .before .before .before .before .before .before .before .before .before .before .before .before in let a = s .args in let t = s .pre .0 in let q = s .pre .1 in (q, t .terms .few)
 
 loop-holds : tie.Need-loop-holds Inv-loop μ-loop
-loop-holds c = let s = c .before .before .before .before .before .before .before .before .before .before .before .before .before in let a = s .args in let t = s .pre .0 in let q = s .pre .1 in (omega arith, search needs, omega (arith, c .sure .ensures .1), charge-none (a .n) (a .start .now) (a .tv .now) (a .off .now) (a .w .now) (a .need .now) (seen (a .set) (a .one)) (a .d .now) (a .dear .now) (a .o) (c .sure .result) _ q (c .before .before .before .owed .ensures) (c .sure .ensures .0))
+loop-holds c = let s = c .before .before .before .before .before .before .before .before .before .before .before .before .before .before in let a = s .args in let t = s .pre .0 in let q = s .pre .1 in (omega arith, search needs, omega (arith, c .sure .ensures .1), charge-none (a .n) (a .start .now) (a .tv .now) (a .off .now) (a .w .now) (a .need .now) (seen (a .set) (a .one)) (a .d .now) (a .dear .now) (a .o) (c .sure .result) _ q (c .before .before .before .owed .ensures) (c .sure .ensures .0))
 
-charge-row-requires : tie.Need-charge-row-requires Inv-loop μ-loop
-charge-row-requires c κs = let s = c .before .before .before .before .before .before .before .before .before .before .before .before .before .before .before .before in let a = s .args in let t = s .pre .0 in let q = s .pre .1 in let l = c .before .before .loop in (t, q, omega (arith, l .inv .1), omega arith)
+charge-turn-requires : tie.Need-charge-turn-requires Inv-loop μ-loop
+charge-turn-requires c κs = let s = c .before .before .before .before .before .before .before .before .before .before .before .before .before .before .before .before .before in let a = s .args in let t = s .pre .0 in let q = s .pre .1 in let l = c .before .before .loop in (t, q, omega (arith, l .inv .1), omega arith)
 
 add-b : tie.Need-add-b Inv-loop μ-loop
-add-b c = let s = c .before .before .before .before .before .before .before .before .before .before .before .before .before .before .before .before .before .before .before in let a = s .args in let t = s .pre .0 in let q = s .pre .1 in let l = c .before .before .before .before .before .loop in let r = c .before .before .charge-row .ensures .low in omega (arith, l .inv .2, t .rows)
+add-b c = let s = c .before .before .before .before .before .before .before .before .before .before .before .before .before .before .before .before .before .before .before .before .before in let a = s .args in let t = s .pre .0 in let q = s .pre .1 in let l = c .before .before .before .before .before .before .loop in let r = c .before .before .before .charge-turn .ensures .low in omega (arith, l .inv .2, t .rows)
 
-add-h : tie.Need-add-h Inv-loop μ-loop
-add-h c = search needs
+add-i : tie.Need-add-i Inv-loop μ-loop
+add-i c = let s = c .before .before .before .before .before .before .before .before .before .before .before .before .before .before .before .before .before .before .before .before .before .before in let l = c .before .before .before .before .before .before .before .loop in omega (arith, s .pre .0 .rows, l .inv .0)
 
 loop-less : tie.Need-loop-less Inv-loop μ-loop
 loop-less c = search needs
 
 loop-again : tie.Need-loop-again Inv-loop μ-loop
-loop-again c = let s = c .before .before .before .before .before .before .before .before .before .before .before .before .before .before .before .before .before .before .before in let a = s .args in let t = s .pre .0 in let q = s .pre .1 in let l = c .before .before .before .before .before .loop in let r = c .before .before .charge-row .ensures in (omega arith, search needs, omega (arith, l .inv .2, r .low), charge-more (a .n) (a .start .now) (a .tv .now) (a .off .now) (a .w .now) (a .need .now) (seen (a .set) (a .one)) (a .d .now) (a .dear .now) (a .o) (l .b) (l .res) _ (c .before .before .charge-row .result) (l .inv .3) r)
+loop-again c = let s = c .before .before .before .before .before .before .before .before .before .before .before .before .before .before .before .before .before .before .before .before .before .before in let a = s .args in let t = s .pre .0 in let q = s .pre .1 in let l = c .before .before .before .before .before .before .before .loop in let r = c .before .before .before .before .charge-turn .ensures in (omega arith, search needs, omega (arith, l .inv .2, r .low), charge-more (a .n) (a .start .now) (a .tv .now) (a .off .now) (a .w .now) (a .need .now) (seen (a .set) (a .one)) (a .d .now) (a .dear .now) (a .o) (l .b) (l .res) _ (c .before .before .before .before .charge-turn .result .by) (l .inv .3) r)
 
 same-length : tie.Need-same-length Inv-loop μ-loop
 same-length c = search needs
@@ -55,9 +55,9 @@ charge-spec =
     owed-requires
     sure-requires
     loop-holds
-    charge-row-requires
+    charge-turn-requires
     add-b
-    add-h
+    add-i
     loop-less
     loop-again
     same-length

@@ -11,10 +11,10 @@ use Rattle.charging.proofs.owed.Statement.{statement}
 use Rattle.charging.proofs.owed.Tie as tie
 
 abbrev Inv-loop : tie.InvT-loop
-Inv-loop n d o set one res₀ v₀ res v = (v ≤ n) × (length res ≡ length res₀) × Owed v (seen set one) d o res
+Inv-loop n d o set one res₀ free₀ v₀ res free v = (v ≤ n) × (length res ≡ length res₀) × Owed v (seen set one) d o res
 
 abbrev μ-loop : tie.MeasureT-loop
-μ-loop n d o set one res₀ v₀ res v = n - v
+μ-loop n d o set one res₀ free₀ v₀ res free v = n - v
 
 loop-holds : tie.Need-loop-holds Inv-loop μ-loop
 loop-holds c = (omega arith, refl, owed-none _ _ _ _)
@@ -40,6 +40,9 @@ mul-res c = search needs
 slice-write-res : tie.Need-slice-write-res Inv-loop μ-loop
 slice-write-res c = search needs
 
+mark-requires : tie.Need-mark-requires Inv-loop μ-loop
+mark-requires c κs = search needs
+
 add-v : tie.Need-add-v Inv-loop μ-loop
 add-v c = search needs
 
@@ -47,7 +50,7 @@ loop-less : tie.Need-loop-less Inv-loop μ-loop
 loop-less c = search needs
 
 loop-again : tie.Need-loop-again Inv-loop μ-loop
-loop-again c = let s = c .before .before .before .before .before .before .before in let a = s .args in let l = c .before .before .before .before .loop in let e = c .owe .ensures in let g = c .before .before .look .ensures in (omega arith, search needs, owed-more (l .v) (seen (a .set) (a .one)) (a .d .now) (a .o) (l .res) (c .owe .result) (omega arith) (l .inv .2) (λ z. e .0 (g ∙ z)) (λ z. e .1 (λ y. z (sym g ∙ y))))
+loop-again c = let s = c .before .before .before .before .before .before .before .before in let a = s .args in let l = c .before .before .before .before .before .loop in let e = c .before .owe .ensures in let g = c .before .before .before .look .ensures in (omega arith, search needs, owed-more (l .v) (seen (a .set) (a .one)) (a .d .now) (a .o) (l .res) (c .before .owe .result) (omega arith) (l .inv .2) (λ z. e .0 (g ∙ z)) (λ z. e .1 (λ y. z (sym g ∙ y))))
 
 same-length : tie.Need-same-length Inv-loop μ-loop
 same-length c = search needs
@@ -69,6 +72,7 @@ owed-spec =
     owe-requires
     mul-res
     slice-write-res
+    mark-requires
     add-v
     loop-less
     loop-again

@@ -14,43 +14,43 @@ use Rattle.forcing.proofs.reduce.Statement.{statement}
 use Rattle.forcing.proofs.reduce.Tie as tie
 
 abbrev Inv-loop : tie.InvT-loop
-Inv-loop n start tv off w need d dear k caps res₀ q₀ res q = (length res ≡ length res₀) × Leads n (Wanted n start tv off w need d dear k caps) q₀ q
+Inv-loop n start tv off w need d dear k caps res₀ hint q₀ res q = (length res ≡ length res₀) × Leads n (Wanted n start tv off w need d dear k caps) q₀ q
 
 abbrev μ-loop : tie.MeasureT-loop
-μ-loop n start tv off w need d dear k caps res₀ q₀ res q = q .left
+μ-loop n start tv off w need d dear k caps res₀ hint q₀ res q = q .left
 
 loop-holds : tie.Need-loop-holds Inv-loop μ-loop
-loop-holds c = let s = c .before .before .before .before .before .before .before .before .before in let a = s .args in let t = s .pre .0 in let o = s .pre .1 in let g = s .pre .3 in (refl, leads-refl (a .n) (Wanted (a .n) (a .start .now) (a .tv .now) (a .off .now) (a .w .now) (a .need .now) (a .d .now) (a .dear .now) (a .k) (a .caps .now)) (a .p) g)
+loop-holds c = let s = c .before .before .before .before .before .before .before .before .before .before in let a = s .args in let t = s .pre .0 in let o = s .pre .1 in let g = s .pre .3 in (refl, leads-refl (a .n) (Wanted (a .n) (a .start .now) (a .tv .now) (a .off .now) (a .w .now) (a .need .now) (a .d .now) (a .dear .now) (a .k) (a .caps .now)) (a .p) g)
 
 pass-requires : tie.Need-pass-requires Inv-loop μ-loop
-pass-requires c κs = let s = c .before .before .before .before .before .before .before .before .before .before in let a = s .args in let t = s .pre .0 in let o = s .pre .1 in let g = s .pre .3 in let l = c .loop in (t, l .inv .1 .good)
+pass-requires c κs = let s = c .before .before .before .before .before .before .before .before .before .before .before in let a = s .args in let t = s .pre .0 in let o = s .pre .1 in let g = s .pre .3 in let l = c .loop in (t, l .inv .1 .good)
 
 same-length : tie.Need-same-length Inv-loop μ-loop
 same-length c = search needs
 
 returns : tie.Need-returns Inv-loop μ-loop
-returns c = let s = c .before .before .before .before .before .before .before .before .before .before .before .before in let a = s .args in let t = s .pre .0 in let o = s .pre .1 in let g = s .pre .3 in let l = c .before .before .loop in let one = cuts-rows (a .n) (a .start .now) (a .tv .now) (a .off .now) (a .w .now) (a .need .now) (a .d .now) (a .dear .now) (a .k) (a .caps .now) (a .p) (l .q) (c .before .pass .result .part) (c .before .pass .result .ok) (l .inv .1) (c .before .pass .ensures) in one
+returns c = let s = c .before .before .before .before .before .before .before .before .before .before .before .before .before in let a = s .args in let t = s .pre .0 in let o = s .pre .1 in let g = s .pre .3 in let l = c .before .before .loop in let one = cuts-rows (a .n) (a .start .now) (a .tv .now) (a .off .now) (a .w .now) (a .need .now) (a .d .now) (a .dear .now) (a .k) (a .caps .now) (a .p) (l .q) (c .before .pass .result .part) (c .before .pass .result .ok) (l .inv .1) (c .before .pass .ensures) in one
 
 forces-requires : tie.Need-forces-requires Inv-loop μ-loop
-forces-requires c κs = let s = c .before .before .before .before .before .before .before .before .before .before .before .before .before in let a = s .args in let t = s .pre .0 in let o = s .pre .1 in let g = s .pre .3 in let l = c .before .before .before .loop in (t, o, omega (arith, l .inv .0), c .before .before .pass .ensures .leads .good)
+forces-requires c κs = let s = c .before .before .before .before .before .before .before .before .before .before .before .before .before .before in let a = s .args in let t = s .pre .0 in let o = s .pre .1 in let g = s .pre .3 in let l = c .before .before .before .loop in (t, o, omega (arith, l .inv .0), c .before .before .pass .ensures .leads .good)
 
 same-length-2 : tie.Need-same-length-2 Inv-loop μ-loop
 same-length-2 c = search needs
 
 returns-2 : tie.Need-returns-2 Inv-loop μ-loop
-returns-2 c = let s = c .before .before .before .before .before .before .before .before .before .before .before .before .before .before .before .before .before in let a = s .args in let t = s .pre .0 in let o = s .pre .1 in let g = s .pre .3 in let l = c .before .before .before .before .before .before .before .loop in let one = cuts-rows (a .n) (a .start .now) (a .tv .now) (a .off .now) (a .w .now) (a .need .now) (a .d .now) (a .dear .now) (a .k) (a .caps .now) (a .p) (l .q) (c .before .before .before .before .before .before .pass .result .part) (c .before .before .before .before .before .before .pass .result .ok) (l .inv .1) (c .before .before .before .before .before .before .pass .ensures) in let two = cuts-then (a .n) (Wanted (a .n) (a .start .now) (a .tv .now) (a .off .now) (a .w .now) (a .need .now) (a .d .now) (a .dear .now) (a .k) (a .caps .now)) (a .p) (c .before .before .before .before .before .before .pass .result .part) (c .before .before .before .forces .result .part) (c .before .before .before .forces .result .ok) (one .leads) (c .before .before .before .forces .ensures) in two
+returns-2 c = let s = c .before .before .before .before .before .before .before .before .before .before .before .before .before .before .before .before .before .before in let a = s .args in let t = s .pre .0 in let o = s .pre .1 in let g = s .pre .3 in let l = c .before .before .before .before .before .before .before .loop in let one = cuts-rows (a .n) (a .start .now) (a .tv .now) (a .off .now) (a .w .now) (a .need .now) (a .d .now) (a .dear .now) (a .k) (a .caps .now) (a .p) (l .q) (c .before .before .before .before .before .before .pass .result .part) (c .before .before .before .before .before .before .pass .result .ok) (l .inv .1) (c .before .before .before .before .before .before .pass .ensures) in let two = cuts-then (a .n) (Wanted (a .n) (a .start .now) (a .tv .now) (a .off .now) (a .w .now) (a .need .now) (a .d .now) (a .dear .now) (a .k) (a .caps .now)) (a .p) (c .before .before .before .before .before .before .pass .result .part) (c .before .before .before .forces .result .part) (c .before .before .before .forces .result .ok) (one .leads) (c .before .before .before .forces .ensures) in two
 
 same-length-3 : tie.Need-same-length-3 Inv-loop μ-loop
 same-length-3 c = search needs
 
 returns-3 : tie.Need-returns-3 Inv-loop μ-loop
-returns-3 c = let s = c .before .before .before .before .before .before .before .before .before .before .before .before .before .before .before .before .before .before .before in let a = s .args in let t = s .pre .0 in let o = s .pre .1 in let g = s .pre .3 in let l = c .before .before .before .before .before .before .before .before .before .loop in let one = cuts-rows (a .n) (a .start .now) (a .tv .now) (a .off .now) (a .w .now) (a .need .now) (a .d .now) (a .dear .now) (a .k) (a .caps .now) (a .p) (l .q) (c .before .before .before .before .before .before .before .before .pass .result .part) (c .before .before .before .before .before .before .before .before .pass .result .ok) (l .inv .1) (c .before .before .before .before .before .before .before .before .pass .ensures) in let two = cuts-then (a .n) (Wanted (a .n) (a .start .now) (a .tv .now) (a .off .now) (a .w .now) (a .need .now) (a .d .now) (a .dear .now) (a .k) (a .caps .now)) (a .p) (c .before .before .before .before .before .before .before .before .pass .result .part) (c .before .before .before .before .before .forces .result .part) (c .before .before .before .before .before .forces .result .ok) (one .leads) (c .before .before .before .before .before .forces .ensures) in two
+returns-3 c = let s = c .before .before .before .before .before .before .before .before .before .before .before .before .before .before .before .before .before .before .before .before in let a = s .args in let t = s .pre .0 in let o = s .pre .1 in let g = s .pre .3 in let l = c .before .before .before .before .before .before .before .before .before .loop in let one = cuts-rows (a .n) (a .start .now) (a .tv .now) (a .off .now) (a .w .now) (a .need .now) (a .d .now) (a .dear .now) (a .k) (a .caps .now) (a .p) (l .q) (c .before .before .before .before .before .before .before .before .pass .result .part) (c .before .before .before .before .before .before .before .before .pass .result .ok) (l .inv .1) (c .before .before .before .before .before .before .before .before .pass .ensures) in let two = cuts-then (a .n) (Wanted (a .n) (a .start .now) (a .tv .now) (a .off .now) (a .w .now) (a .need .now) (a .d .now) (a .dear .now) (a .k) (a .caps .now)) (a .p) (c .before .before .before .before .before .before .before .before .pass .result .part) (c .before .before .before .before .before .forces .result .part) (c .before .before .before .before .before .forces .result .ok) (one .leads) (c .before .before .before .before .before .forces .ensures) in two
 
 loop-less : tie.Need-loop-less Inv-loop μ-loop
-loop-less c = let s = c .before .before .before .before .before .before .before .before .before .before .before .before .before .before .before .before .before .before .before in let a = s .args in let t = s .pre .0 in let o = s .pre .1 in let g = s .pre .3 in let l = c .before .before .before .before .before .before .before .before .before .loop in omega (arith, c .before .before .before .before .before .before .before .before .pass .ensures .leads .fewer, c .before .before .before .before .before .forces .ensures .leads .fewer, c .if3 .left)
+loop-less c = let s = c .before .before .before .before .before .before .before .before .before .before .before .before .before .before .before .before .before .before .before .before in let a = s .args in let t = s .pre .0 in let o = s .pre .1 in let g = s .pre .3 in let l = c .before .before .before .before .before .before .before .before .before .loop in omega (arith, c .before .before .before .before .before .before .before .before .pass .ensures .leads .fewer, c .before .before .before .before .before .forces .ensures .leads .fewer, c .if3 .left)
 
 loop-again : tie.Need-loop-again Inv-loop μ-loop
-loop-again c = let s = c .before .before .before .before .before .before .before .before .before .before .before .before .before .before .before .before .before .before .before in let a = s .args in let t = s .pre .0 in let o = s .pre .1 in let g = s .pre .3 in let l = c .before .before .before .before .before .before .before .before .before .loop in let one = cuts-rows (a .n) (a .start .now) (a .tv .now) (a .off .now) (a .w .now) (a .need .now) (a .d .now) (a .dear .now) (a .k) (a .caps .now) (a .p) (l .q) (c .before .before .before .before .before .before .before .before .pass .result .part) (c .before .before .before .before .before .before .before .before .pass .result .ok) (l .inv .1) (c .before .before .before .before .before .before .before .before .pass .ensures) in let two = cuts-then (a .n) (Wanted (a .n) (a .start .now) (a .tv .now) (a .off .now) (a .w .now) (a .need .now) (a .d .now) (a .dear .now) (a .k) (a .caps .now)) (a .p) (c .before .before .before .before .before .before .before .before .pass .result .part) (c .before .before .before .before .before .forces .result .part) (c .before .before .before .before .before .forces .result .ok) (one .leads) (c .before .before .before .before .before .forces .ensures) in (search needs, two .leads)
+loop-again c = let s = c .before .before .before .before .before .before .before .before .before .before .before .before .before .before .before .before .before .before .before .before in let a = s .args in let t = s .pre .0 in let o = s .pre .1 in let g = s .pre .3 in let l = c .before .before .before .before .before .before .before .before .before .loop in let one = cuts-rows (a .n) (a .start .now) (a .tv .now) (a .off .now) (a .w .now) (a .need .now) (a .d .now) (a .dear .now) (a .k) (a .caps .now) (a .p) (l .q) (c .before .before .before .before .before .before .before .before .pass .result .part) (c .before .before .before .before .before .before .before .before .pass .result .ok) (l .inv .1) (c .before .before .before .before .before .before .before .before .pass .ensures) in let two = cuts-then (a .n) (Wanted (a .n) (a .start .now) (a .tv .now) (a .off .now) (a .w .now) (a .need .now) (a .d .now) (a .dear .now) (a .k) (a .caps .now)) (a .p) (c .before .before .before .before .before .before .before .before .pass .result .part) (c .before .before .before .before .before .forces .result .part) (c .before .before .before .before .before .forces .result .ok) (one .leads) (c .before .before .before .before .before .forces .ensures) in (search needs, two .leads)
 
 pub reduce-spec : {M : Type 1} → statement M
 reduce-spec =

@@ -11,10 +11,10 @@ use Rattle.charging.proofs.terms.pay.Statement.{statement}
 use Rattle.charging.proofs.terms.pay.Tie as tie
 
 abbrev Inv-loop : tie.InvT-loop
-Inv-loop n tv off w dear o res₀ a many m j₀ res j = (j ≤ many) × (length res ≡ length res₀) × Paid n tv off dear o a j m res₀ res
+Inv-loop n tv off w dear o res₀ a many m free₀ j₀ res free j = (j ≤ many) × (length res ≡ length res₀) × Paid n tv off dear o a j m res₀ res
 
 abbrev μ-loop : tie.MeasureT-loop
-μ-loop n tv off w dear o res₀ a many m j₀ res j = many - j
+μ-loop n tv off w dear o res₀ a many m free₀ j₀ res free j = many - j
 
 loop-holds : tie.Need-loop-holds Inv-loop μ-loop
 loop-holds c = (omega arith, refl, paid-none _ _ _ _ _ _ _ _)
@@ -52,6 +52,9 @@ mul-res c = let s = c .before .before .before .before .before .before .before .b
 slice-write-res : tie.Need-slice-write-res Inv-loop μ-loop
 slice-write-res c = let s = c .before .before .before .before .before .before .before .before .before .before .before .before in let a = s .args in let l = c .before .before .before .before .before .before .loop in let q = s .pre .0 .vars (a .a + l .j) (omega arith) in omega arith
 
+mark-requires : tie.Need-mark-requires Inv-loop μ-loop
+mark-requires c κs = let s = c .before .before .before .before .before .before .before .before .before .before .before .before in let a = s .args in let l = c .before .before .before .before .before .before .loop in let q = s .pre .0 .vars (a .a + l .j) (omega arith) in omega (arith, s .pre .0 .few)
+
 add-j : tie.Need-add-j Inv-loop μ-loop
 add-j c = search needs
 
@@ -59,7 +62,7 @@ loop-less : tie.Need-loop-less Inv-loop μ-loop
 loop-less c = search needs
 
 loop-again : tie.Need-loop-again Inv-loop μ-loop
-loop-again c = let s = c .before .before .before .before .before .before .before .before .before .before .before .before in let a = s .args in let l = c .before .before .before .before .before .before .loop in let q = s .pre .0 .vars (a .a + l .j) (omega arith) in let e = c .paid .ensures in (omega arith, search needs, paid-more (a .n) (a .tv .now) (a .off .now) (a .dear .now) (a .o) (a .a) (l .j) (a .m) (a .res .now) (l .res) (c .paid .result) q (omega arith) (l .inv .2) (e .0) (e .1))
+loop-again c = let s = c .before .before .before .before .before .before .before .before .before .before .before .before .before in let a = s .args in let l = c .before .before .before .before .before .before .before .loop in let q = s .pre .0 .vars (a .a + l .j) (omega arith) in let e = c .before .paid .ensures in (omega arith, search needs, paid-more (a .n) (a .tv .now) (a .off .now) (a .dear .now) (a .o) (a .a) (l .j) (a .m) (a .res .now) (l .res) (c .before .paid .result) q (omega arith) (l .inv .2) (e .0) (e .1))
 
 same-length : tie.Need-same-length Inv-loop μ-loop
 same-length c = search needs
@@ -85,6 +88,7 @@ pay-spec =
     paid-requires
     mul-res
     slice-write-res
+    mark-requires
     add-j
     loop-less
     loop-again
