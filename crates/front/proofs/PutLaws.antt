@@ -1,32 +1,14 @@
--- One point into the runs: what judging answers, four values stored, costs stored. Assumes nothing.
+-- One point into the runs: four values stored, costs stored. Assumes nothing.
 use mathlib.Core.Path.{_≡_, refl, sym, ap, _∙_, subst}
 use mathlib.Core.List.{List, [], _∷_, _++_}
-use Prim.Native.Nat.{ℕ, suc, _+_, _^_, _≤_, _<_}
+use Prim.Native.Nat.{ℕ, suc, _+_, _≤_, _<_}
 use native.Mathlib.Omega.{arith}
 use native.Mathlib.Decide.{decLt}
 use lib.IntN.{ℤ, pos}
 use lib.ListN.{length, getD, set, length-set, drop}
 use lib.Seq.{getD-set-same, getD-set-other}
-use Rattle.instance.specs.Tables.{IsInstance}
-use Rattle.instance.specs.Meaning.{meaning, vector}
 use Rattle.judge.specs.Judging.{padded}
-use Rattle.judge.specs.Answers.{JudgedAs}
-use Rattle.judge.specs.declared.judging.Judged.{Judged}
-use Rattle.judge.specs.declared.judging.Judged.the-variants.{Done, NotInstance, BitsBeyond}
-use Rattle.judge.specs.declared.judging.Judgement.{Judgement}
-use Rattle.front.specs.Listing.{fourOf, setFour, CostsPut}
-
--- ---- Judgement
-
-module _ {ts rs : List ℤ} {a : ℕ} (is : IsInstance ts rs) (bits : a < 2 ^ (meaning ts rs) .variables) where
-  pub judged-four : {r : Judged} {j : Judgement} → JudgedAs ts rs a r → r ≡ Done j → fourOf j ≡ padded (vector (meaning ts rs) a)
-  judged-four {r} {j} p e = (subst (JudgedAs ts rs a) e p) .values
-
-  pub judged-instance {ℓ} : {X : Type ℓ} {r : Judged} → JudgedAs ts rs a r → r ≡ NotInstance → X
-  judged-instance p e = absurd ((subst (JudgedAs ts rs a) e p) is)
-
-  pub judged-bits {ℓ} : {X : Type ℓ} {r : Judged} → JudgedAs ts rs a r → r ≡ BitsBeyond → X
-  judged-bits p e = absurd (omega (arith, (subst (JudgedAs ts rs a) e p) .bits))
+use Rattle.front.specs.Listing.{setFour, CostsPut}
 
 -- ---- setFour
 

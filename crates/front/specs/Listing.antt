@@ -7,9 +7,9 @@ use lib.IntN.{ℤ, pos}
 use lib.ListN.{length, getD, set, take, drop}
 use Rattle.instance.specs.Meaning.{Instance, meaning, vector, Feasible}
 use Rattle.judge.specs.Judging.{padded}
-use Rattle.judge.specs.declared.judging.Judgement.{Judgement}
 use Rattle.points.specs.Limits.{maxPoints, pointValues}
 use Rattle.points.specs.Fronts.{Candidate, IsFront}
+use Rattle.front.specs.declared.put.Four.{Four}
 
 -- A candidate of an instance: a feasible assignment with its vector, four values, unused ones 0.
 pub record CandidateOf (i : Instance) (c : Candidate) : Type 0 where
@@ -45,9 +45,9 @@ modelsLeft xs ms = modelsOf xs ++ drop (length xs) ms
 
 -- ---- what the code's smaller functions promise
 
--- The four values of a judgement.
-abbrev pub fourOf : Judgement → List ℤ
-fourOf j = j .first ∷ (j .second ∷ (j .third ∷ (j .fourth ∷ [])))
+-- The four values as a list.
+abbrev pub fourOf : Four → List ℤ
+fourOf four = four .first ∷ (four .second ∷ (four .third ∷ (four .fourth ∷ [])))
 
 -- Four numbers stored from place `at` on.
 abbrev pub setFour : List ℤ → ℕ → List ℤ → List ℤ

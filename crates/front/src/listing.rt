@@ -112,7 +112,7 @@ pub fn list_points(
             };
         }
         let a = next.number;
-        put_point(terms, rows, a, m, values, models);
+        put_point(terms, rows, k, a, m, values, models);
         put_costs(k, &costs, m * k, &mut listed);
         stock = next.stock;
         m += 1;

@@ -28,8 +28,8 @@ pub enum Judged {
     BitsBeyond, // 12: assignment has a bit from n up
 }
 
-// The value of objective k, counted from 0; 0 where there is none.
-fn value_of(terms: &[i32], rows: &[i64], objectives: usize, k: usize, a: u64) -> i64
+// The value of objective k, counted from 0; 0 where there is none. For a caller that has judged the tables to be an instance already.
+pub fn value_of(terms: &[i32], rows: &[i64], objectives: usize, k: usize, a: u64) -> i64
     requires { ⌜ IsInstance (now terms) (now rows) ⌝ }
     requires { ⌜ objectives ≡ objectivesIn (now rows) ⌝ }
     ensures { λ r. ⌜ r ≡ getD (vector (meaning (now (terms .entry)) (now (rows .entry))) a) k (pos 0) ⌝ }

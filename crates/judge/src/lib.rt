@@ -1,6 +1,7 @@
 // Judging one assignment (document 01, 'The front', first paragraph; refusals 10 and 12): its vector and the first row that it does not meet.
 //
 // judge_assignment(terms, rows, assignment)   answers the vector and the first unmet row, or refuses 10 or 12
+// value_of(.., k, assignment)                 the value of one objective, where the tables are known to be an instance
 // bits::bit, bits::within                     one bit of an assignment's number; whether it has no bit from n up
 //
 // The caller lends the tables; nothing here writes to them.
@@ -14,3 +15,4 @@ mod judging; // judging.rt: the answer
 pub use judging::Judged;
 pub use judging::Judgement;
 pub use judging::judge_assignment;
+pub use judging::value_of;

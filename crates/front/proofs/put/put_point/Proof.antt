@@ -1,4 +1,4 @@
--- The values are those of the judgement.
+-- The values are those of the assignment.
 use mathlib.Core.Path.{refl, ap, _∙_}
 use mathlib.Core.List.{List}
 use Prim.Native.Nat.{_*_}
@@ -8,8 +8,8 @@ use borrow.Author.Needs.{needs}
 use Rattle.front.proofs.put.put_point.Statement.{statement}
 use Rattle.front.proofs.put.put_point.Tie as tie
 
-judgement-of-requires : tie.Need-judgement-of-requires
-judgement-of-requires c κs = search needs
+four-of-requires : tie.Need-four-of-requires
+four-of-requires c κs = search needs
 
 mul-put-four : tie.Need-mul-put-four
 mul-put-four c = search needs
@@ -30,13 +30,13 @@ same-length-2 : tie.Need-same-length-2
 same-length-2 c = search needs
 
 returns : tie.Need-returns
-returns c = (c .before .put-four .ensures ∙ ap (λ (v : List ℤ). setFour (c .before .before .before .before .before .args .values .now) ((c .before .before .before .before .before .args .m) * 4) v) (c .before .before .before .judgement-of .ensures), refl)
+returns c = (c .before .put-four .ensures ∙ ap (λ (v : List ℤ). setFour (c .before .before .before .before .before .args .values .now) ((c .before .before .before .before .before .args .m) * 4) v) (c .before .before .before .four-of .ensures), refl)
 
 pub put-point-spec : {M : Type 1} → statement M
 put-point-spec =
     tie.close
     (tie.spec
-    judgement-of-requires
+    four-of-requires
     mul-put-four
     put-four-requires
     mul-models
