@@ -30,7 +30,7 @@ pub fn alone(hint: &[u64], i: usize, one: u64, zero: u64) -> bool
 }
 
 // Whether two of the unset variables can each meet the i-th row alone.
-pub fn choice(hint: &[u64], i: usize, set: u64) -> bool
+fn choice(hint: &[u64], i: usize, set: u64) -> bool
     requires { ⌜ i ≤ 2 ^ 16 ⌝ }
 {
     if hint.len() <= i * 3 + 2 {
@@ -41,6 +41,16 @@ pub fn choice(hint: &[u64], i: usize, set: u64) -> bool
         return false;
     }
     open & (open - 1) != 0
+}
+
+// Whether the i-th row forces nothing: a variable that is set meets it, or two that are unset can.
+pub fn idle(hint: &[u64], i: usize, set: u64, one: u64) -> bool
+    requires { ⌜ i ≤ 2 ^ 16 ⌝ }
+{
+    if alone(hint, i, one, set ^ one) {
+        return true;
+    }
+    choice(hint, i, set)
 }
 
 // The word of free variables, with v where nothing is left to charge at it.

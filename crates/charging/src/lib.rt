@@ -4,7 +4,7 @@
 // reach(..)            the greatest left side of a row that is still in reach
 // sure(..)             the cost of the variables that are set
 // charge(.., res)      a lower bound of the cost, and in `res` what each variable may still be charged
-// turn, alone, choice  hints on the order of rows and on those that are met already
+// turn, alone, idle    hints on the order of rows and on those that may be passed over
 //
 // The tables, lent by the caller. Half rows, one after the other: row h has the terms from start[h] to start[h + 1], and needs need[h]; term k
 // gives w[k] unless its variable tv[k] stands at off[k]. Objectives: the n numbers of objective i begin at o = i * n; variable v costs d[o + v] where
@@ -14,9 +14,9 @@ mod hints;
 mod sides;
 mod terms;
 
-pub use hints::alone;
-pub use hints::choice;
-pub use hints::mark;
+use hints::alone;
+pub use hints::idle;
+use hints::mark;
 pub use hints::turn;
 pub use sides::hits;
 pub use sides::look;

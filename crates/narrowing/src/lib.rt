@@ -105,7 +105,7 @@ pub fn row(
     Cut { ok: true, part: q }
 }
 
-// What the i-th row forces, if it is not met already and not open to two variables.
+// What the i-th row forces, unless the hint says that it forces nothing.
 pub fn visit(
     n: usize,
     start: &[usize],
@@ -120,10 +120,7 @@ pub fn visit(
     requires { ⌜ Table n (now start) (now tv) (now off) (now w) (now need) × Good n p × (i < length (now need)) ⌝ }
     ensures { λ r. ⌜ Cuts n (Meets (now (start .entry)) (now (tv .entry)) (now (off .entry)) (now (w .entry)) (now (need .entry))) p (r .ok) (r .part) ⌝ }
 {
-    if charging::alone(hint, i, p.one, p.set ^ p.one) {
-        return Cut { ok: true, part: p };
-    }
-    if charging::choice(hint, i, p.set) {
+    if charging::idle(hint, i, p.set, p.one) {
         return Cut { ok: true, part: p };
     }
     row(
