@@ -1,4 +1,4 @@
-/* GLPK's mixed integer solver on one instance: glpk LIMIT FILE. Prints the report that opb.py describes; only solving is timed.
+/* GLPK's mixed integer solver on one instance: glpk [LIMIT FILE], as opb.py says. Only solving is timed.
  *
  * Two costs: the least f1, then the least f2 with that f1, then f2 must be lower than that, and so on. One, three or four costs: the least sum of
  * the costs; then for each point p found, one of the costs must be below p's. A binary y_i says which: f_i + (most_i - p_i + 1) y_i <= most_i,
@@ -175,7 +175,7 @@ static int list_more(void) {
 }
 
 int main(int argc, char **argv) {
-    if (argc != 3) fail("glpk LIMIT FILE");
+    if (argc != 3) return puts(glp_version()) < 0;
     limit = atof(argv[1]);
     read_instance(argv[2]);
     glp_term_out(GLP_OFF);

@@ -4,6 +4,8 @@ Each call finds the least sum of all costs. Then for the point p that it gave, o
 row f_i + (most_i - p_i + 1) y_i <= most_i, where most_i is the greatest value of f_i, and the y_i of a point sum to 1 or more. Each optimum is a
 point of the front, as what is open below a vector stays open.
 """
+import re
+import subprocess
 import sys
 
 from opb import Instance, report
@@ -29,6 +31,11 @@ class Model:
                 self.rows.append(({**coefficients, self.variables: most - point[k] + 1}, "<=", most - constant))
         self.rows.append((choice, ">=", 1))
         return bool(choice)
+
+
+def version(*command):
+    """Prints the first dotted number that the command prints."""
+    print(re.search(r"\d+\.[\d.]*\d", subprocess.run(command, capture_output=True, text=True).stdout).group())
 
 
 def run(solve):

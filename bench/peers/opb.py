@@ -1,7 +1,8 @@
 """What the peers in Python share: instances read from OPB text, and the report of a run.
 
-A report is a line `done SECONDS calls N` or `limit SECONDS calls N`, then a line `values V1 ... Vk` for each vector found. SECONDS is what the
-solver took to solve: start-up and building of models are apart.
+Every peer is a program that is called in two ways. Without arguments it prints the solver's version, and fails where the solver is not installed.
+With LIMIT FILE it reports: a line `done SECONDS calls N`, or `limit SECONDS calls N` where LIMIT seconds did not suffice, then a line
+`values V1 ... Vk` for each vector found. SECONDS is what the solver took to solve: start-up and building of models are apart.
 """
 import sys
 

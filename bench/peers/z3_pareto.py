@@ -1,4 +1,5 @@
-"""Z3's Pareto mode on one instance: z3_pareto.py LIMIT FILE. Needs Debian's binding, so it is run by /usr/bin/python3.
+#!/usr/bin/python3
+"""Z3's Pareto mode on one instance: z3_pareto.py [LIMIT FILE], as opb.py says. Needs Debian's binding, so Debian's Python runs it.
 
 The costs and the rows are sums of If(x, c, 0). Of the forms tried (these sums throughout, pseudo-Boolean rows, clauses, soft clauses, whole
 numbers from 0 to 1, bit vectors) this one is the fastest at n = 50 and 64 by a small margin, bit vectors far behind.
@@ -28,6 +29,8 @@ def build(instance):
 
 
 def main():
+    if len(sys.argv) == 1:
+        return print(z3.get_version_string())
     limit, instance = float(sys.argv[1]), Instance(sys.argv[2])
     x, solver = build(instance)
     vectors, calls, seconds, answer = [], 0, 0.0, z3.sat
