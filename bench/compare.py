@@ -84,6 +84,8 @@ def start_up(command):
         begin = time.perf_counter()
         out = call(command + [TINY], 60)
         took = time.perf_counter() - begin
+        if out is None:
+            sys.exit("compare: %s fails on %s" % (command[0], TINY))
         if out.startswith("done"):
             took -= float(out.split()[1])
         least = took if least is None else min(least, took)
