@@ -84,15 +84,16 @@ def legend(names):
 
 def picture(rows, limit):
     wide, high = LEFT + 3 * WIDTH + 2 * GAP + 20, TOP + HEIGHT + 50
-    out = ['<svg xmlns="http://www.w3.org/2000/svg" width="%d" height="%d" viewBox="0 0 %d %d" font-family="Helvetica, Arial, sans-serif">' % (wide, high, wide, high),
+    size = 'width="%d" height="%d" viewBox="0 0 %d %d"' % (wide, high, wide, high)
+    out = ['<svg xmlns="http://www.w3.org/2000/svg" %s font-family="Helvetica, Arial, sans-serif">' % size,
            '<rect width="100%" height="100%" fill="#ffffff"/>',
            text(LEFT, 26, "Time to list the front of a fence placement (geometric mean, start-up apart)", 16, "start")]
     shown = [solver for solver in NAMES if points_of(rows, solver)]
     out += legend(shown)
     least = min(seconds for solver in shown for k in (2, 3, 4) for _, seconds, _ in points_of([row for row in rows if row["k"] == k], solver))
-    low, high = math.floor(math.log10(least)), math.ceil(math.log10(limit))
+    lowest, highest = math.floor(math.log10(least)), math.ceil(math.log10(limit))
     for k in (2, 3, 4):
-        panel, members = Panel(k, low, high), [row for row in rows if row["k"] == k]
+        panel, members = Panel(k, lowest, highest), [row for row in rows if row["k"] == k]
         out += panel.frame(limit)
         for solver in reversed(shown):
             out += panel.curve(points_of(members, solver), COLOURS[solver])
@@ -103,7 +104,7 @@ def picture(rows, limit):
 def main():
     folder, limit = sys.argv[1], float(sys.argv[2])
     rows = [row for row in results.read(folder) if row["family"] == "fence"]
-    with open(os.path.join(folder, "time.svg"), "w") as out:
+    with open(os.path.join(folder, "time.svg"), "w", encoding="utf-8") as out:
         out.write("\n".join(picture(rows, limit)))
 
 

@@ -5,7 +5,8 @@
  * where most_i is the greatest value of f_i, and the y_i of a point sum to 1 or more. Each optimum is a point of the front, as what is open below a
  * vector stays open.
  *
- * Tolerances are set so that a binary's error, times the greatest coefficient here, is far below 1; each assignment is rounded and judged by the library. */
+ * Tolerances are set so that a binary's error, times the greatest coefficient here, is far below 1. Each assignment is rounded, and the library
+ * judges it. */
 #include "basilurn.h"
 #include <glpk.h>
 #include <inttypes.h>
