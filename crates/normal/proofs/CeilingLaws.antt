@@ -1,4 +1,4 @@
--- Half rows as objectives with a cap: what the terms of a half row withhold is the cost with the base, and with what they give it is their weight.
+-- Half rows as objectives with a cap: what the terms of half rows withhold is the cost with the base, and with what they give it is their weight.
 -- Assumes nothing.
 use mathlib.Core.Path.{_≡_, refl, sym, ap, ap₂, _∙_, subst}
 use mathlib.Core.Logic.{⊎-elim}
@@ -7,22 +7,22 @@ use Prim.Native.Nat.{ℕ, zero, suc, _+_, _-_, _*_, _/_, _%_, _^_, _≤_, _<_, m
 use native.Mathlib.Nat.{mul-le-mul-right, suc-mul}
 use native.Mathlib.Omega.{arith}
 use native.Mathlib.Decide.{decLt}
-use lib.ListN.{length, getD, set, take, length-set, List·getD-eq-default}
+use lib.ListN.{length, getD, set, take, replicate, length-set, length-replicate, getD-replicate, List·getD-eq-default}
 use lib.Seq.{getD-set-same, getD-set-other, getD-take, length-take-le}
 use Rattle.charging.specs.Rows.{hit, miss, span, term, cost, Meets, Ceiled}
 use Rattle.charging.proofs.SumLaws.{span-none, span-more, eq-or, hit-eq, hit-ne, miss-eq, miss-ne}
 use Rattle.instance.specs.Limits.{maxCoef, maxTerms}
 use Rattle.normal.specs.Costs.{sidesOf, baseOf, Settled}
-use Rattle.normal.specs.Ceilings.{Bits, withheld, Withholds, weightsIn, Ceiling, CeilingOne, CeilingAll}
+use Rattle.normal.specs.Ceilings.{Bits, withheld, Piled, Heaps, Heap, weightsIn, Ceiling, CeilingOne, CeilingAll}
 use Rattle.normal.proofs.CostLaws.{span-one, sides-none}
 use Rattle.normal.proofs.SettleLaws.{cost-sides-of}
 use Rattle.normal.proofs.NormalLaws.{place-parts}
 use Rattle.normal.proofs.PricedLaws.{gap-le, dear-two, earlier-below, span-same}
 
--- ---- Withholds
+-- ---- Piled
 
-pub withhold-none : (n : ℕ) (tv off w : List ℕ) (a : ℕ) (sides : List ℕ) → ((j : ℕ) → getD sides j 0 ≡ 0) → Withholds n tv off w a 0 sides sides
-withhold-none n tv off w a sides f = record { same = refl; sums = λ x b. sides-none n sides x f ∙ sym (span-none (λ (k : ℕ). hit (x (getD tv k 0)) (getD off k 0) (getD w k 0)) a); small = λ i. omega (arith, f i) }
+pub pile-none : (n : ℕ) (tv off w : List ℕ) (a : ℕ) (sides : List ℕ) → Piled n tv off w a 0 sides sides
+pile-none n tv off w a sides = record { same = refl; sums = λ x b. omega (arith, span-none (λ (k : ℕ). hit (x (getD tv k 0)) (getD off k 0) (getD w k 0)) a); small = λ i. omega arith }
 
 -- one term more
 module _ (n : ℕ) (sides : List ℕ) (v o m : ℕ) (lv : v < n) (lo : o < 2) (room : n * 2 ≤ length sides) where
@@ -42,13 +42,12 @@ module _ (n : ℕ) (sides : List ℕ) (v o m : ℕ) (lv : v < n) (lo : o < 2) (r
           sum : getD sides (v * 2 + x v) 0 ≡ getD sides (v * 2 + x v) 0 + hit (x v) o m
           sum = omega (arith, hit-ne (x v) o m e)
 
-pub withhold-more : {n : ℕ} {tv off w : List ℕ} {a many : ℕ} {sides₀ sides : List ℕ} → Withholds n tv off w a many sides₀ sides → n * 2 ≤ length sides₀
+pub pile-more : {n : ℕ} {tv off w : List ℕ} {a many : ℕ} {sides₀ sides : List ℕ} → Piled n tv off w a many sides₀ sides → n * 2 ≤ length sides₀
     → getD tv (a + many) 0 < n → getD off (a + many) 0 < 2 → getD w (a + many) 0 ≤ maxCoef
-    → Withholds n tv off w a (many + 1) sides₀ (set sides (getD tv (a + many) 0 * 2 + getD off (a + many) 0) (getD sides (getD tv (a + many) 0 * 2 + getD off (a + many) 0) 0 + getD w (a + many) 0))
-withhold-more {n} {tv} {off} {w} {a} {many} {sides₀} {sides} p room lv lo lw = record {
+    → Piled n tv off w a (many + 1) sides₀ (set sides (getD tv (a + many) 0 * 2 + getD off (a + many) 0) (getD sides (getD tv (a + many) 0 * 2 + getD off (a + many) 0) 0 + getD w (a + many) 0))
+pile-more {n} {tv} {off} {w} {a} {many} {sides₀} {sides} p room lv lo lw = record {
   same = length-set sides at (getD sides at 0 + getD w (a + many) 0) ∙ p .same;
-  sums = λ x b. sides-hit n sides (getD tv (a + many) 0) (getD off (a + many) 0) (getD w (a + many) 0) lv lo (omega (arith, p .same)) x b ∙ ap (λ (k : ℕ). k + hit (x (getD tv (a + many) 0)) (getD off (a + many) 0) (getD w (a + many) 0)) (p .sums x b)
-      ∙ sym (span-more (λ (k : ℕ). hit (x (getD tv k 0)) (getD off k 0) (getD w k 0)) a many);
+  sums = λ x b. omega (arith, sides-hit n sides (getD tv (a + many) 0) (getD off (a + many) 0) (getD w (a + many) 0) lv lo (omega (arith, p .same)) x b, p .sums x b, span-more (λ (k : ℕ). hit (x (getD tv k 0)) (getD off k 0) (getD w k 0)) a many);
   small = λ i. ⊎-elim (own i) (other i) (eq-or i at);
 }
   where
@@ -58,10 +57,10 @@ withhold-more {n} {tv} {off} {w} {a} {many} {sides₀} {sides} p room lv lo lw =
     more : List ℕ
     more = set sides (getD tv (a + many) 0 * 2 + getD off (a + many) 0) (getD sides (getD tv (a + many) 0 * 2 + getD off (a + many) 0) 0 + getD w (a + many) 0)
 
-    own : (i : ℕ) → i ≡ getD tv (a + many) 0 * 2 + getD off (a + many) 0 → getD (set sides (getD tv (a + many) 0 * 2 + getD off (a + many) 0) (getD sides (getD tv (a + many) 0 * 2 + getD off (a + many) 0) 0 + getD w (a + many) 0)) i 0 ≤ (many + 1) * maxCoef
-    own i e = omega (arith, ap (λ (k : ℕ). getD more k 0) e, getD-set-same sides (getD tv (a + many) 0 * 2 + getD off (a + many) 0) (getD sides (getD tv (a + many) 0 * 2 + getD off (a + many) 0) 0 + getD w (a + many) 0) 0 (omega (arith, p .same)), p .small (getD tv (a + many) 0 * 2 + getD off (a + many) 0))
+    own : (i : ℕ) → i ≡ getD tv (a + many) 0 * 2 + getD off (a + many) 0 → getD (set sides (getD tv (a + many) 0 * 2 + getD off (a + many) 0) (getD sides (getD tv (a + many) 0 * 2 + getD off (a + many) 0) 0 + getD w (a + many) 0)) i 0 ≤ getD sides₀ i 0 + (many + 1) * maxCoef
+    own i e = omega (arith, ap (λ (k : ℕ). getD more k 0) e, ap (λ (k : ℕ). getD sides₀ k 0) e, getD-set-same sides (getD tv (a + many) 0 * 2 + getD off (a + many) 0) (getD sides (getD tv (a + many) 0 * 2 + getD off (a + many) 0) 0 + getD w (a + many) 0) 0 (omega (arith, p .same)), p .small (getD tv (a + many) 0 * 2 + getD off (a + many) 0))
 
-    other : (i : ℕ) → (i ≡ getD tv (a + many) 0 * 2 + getD off (a + many) 0 → ⊥) → getD (set sides (getD tv (a + many) 0 * 2 + getD off (a + many) 0) (getD sides (getD tv (a + many) 0 * 2 + getD off (a + many) 0) 0 + getD w (a + many) 0)) i 0 ≤ (many + 1) * maxCoef
+    other : (i : ℕ) → (i ≡ getD tv (a + many) 0 * 2 + getD off (a + many) 0 → ⊥) → getD (set sides (getD tv (a + many) 0 * 2 + getD off (a + many) 0) (getD sides (getD tv (a + many) 0 * 2 + getD off (a + many) 0) 0 + getD w (a + many) 0)) i 0 ≤ getD sides₀ i 0 + (many + 1) * maxCoef
     other i e = omega (arith, getD-set-other sides (getD tv (a + many) 0 * 2 + getD off (a + many) 0) i (getD sides (getD tv (a + many) 0 * 2 + getD off (a + many) 0) 0 + getD w (a + many) 0) 0 e, p .small i)
 
 -- ---- Ceiling
@@ -75,33 +74,74 @@ both tv off w x a (suc many) = omega (arith, both tv off w x a many, one (x (get
     one : (p q m : ℕ) → miss p q m + hit p q m ≡ m
     one p q m = ⊎-elim (λ e. omega (arith, miss-eq p q m e, hit-eq p q m e)) (λ e. omega (arith, miss-ne p q m e, hit-ne p q m e)) (eq-or p q)
 
-module _ {n : ℕ} (start : List ℕ) {tv off w : List ℕ} (need : List ℕ) (h i : ℕ) (lh : h < length need) {a many : ℕ} (ae : a ≡ getD start h 0) (me : many ≡ getD start (h + 1) 0 - getD start h 0) {sides₀ sides d₀ d dear₀ dear : List ℕ} (caps₀ : List ℕ) {weight base : ℕ}
-    (p : Withholds n tv off w a many sides₀ sides) (s : Settled (i * n) n sides d₀ d dear₀ dear) (we : weight ≡ weightsIn w a many) (be : base ≡ baseOf n sides) (few : many ≤ maxTerms + maxTerms) (li : i < length caps₀) where
-  -- the cost with the base is what is withheld, and that is at most the weight less the need
-  met-cost : (x : ℕ → ℕ) → Bits n x → Meets start tv off w need x → cost n d dear (i * n) x ≤ weight - getD need h 0 - base
-  met-cost x b m =
-      let row : getD need h 0 ≤ span (term tv off w x) a many = subst (λ (k : ℕ). getD need h 0 ≤ span (term tv off w x) k many) (sym ae) (subst (λ (k : ℕ). getD need h 0 ≤ span (term tv off w x) (getD start h 0) k) (sym me) (m h lh)) in
-      omega (arith, row, both tv off w x a many, cost-sides-of (i * n) n s x b, p .sums x b)
+-- what a half row withholds where it is met is at most its weight less its need
+pub heaps-row : {n : ℕ} (start : List ℕ) {tv off w : List ℕ} (need : List ℕ) (h : ℕ) → h < length need → {sides₀ sides : List ℕ} {weight r : ℕ}
+    → Piled n tv off w (getD start h 0) (getD start (h + 1) 0 - getD start h 0) sides₀ sides
+    → weight ≡ weightsIn w (getD start h 0) (getD start (h + 1) 0 - getD start h 0) → weight ≤ (getD start (h + 1) 0 - getD start h 0) * maxCoef → r ≡ weight - getD need h 0
+    → Heaps n start tv off w need h sides₀ sides r
+heaps-row {n} start {tv} {off} {w} need h lh {sides₀} {sides} {weight} {r} p we wl re = record {
+  same = p .same;
+  bound = λ x b m. omega (arith, m h lh, both tv off w x (getD start h 0) (getD start (h + 1) 0 - getD start h 0), p .sums x b);
+  small = p .small;
+  low = omega arith;
+}
 
-  pub ceiling-one : CeilingOne n start tv off w need i d₀ d dear₀ dear caps₀ (set caps₀ i (weight - getD need h 0 - base))
-  ceiling-one = record {
+pub heaps-none : (n : ℕ) (start tv off w need : List ℕ) (h : ℕ) (sides : List ℕ) → Heaps n start tv off w need h sides sides 0
+heaps-none n start tv off w need h sides = record { same = refl; bound = λ x b m. omega arith; small = λ i. omega arith; low = omega arith }
+
+-- a run that is all 0
+pub zeros : (m j : ℕ) → getD {A = ℕ} (replicate m 0) j 0 ≡ 0
+zeros m j = by (decLt j m)
+  where
+    by : Dec (j < m) → getD {A = ℕ} (replicate m 0) j 0 ≡ 0
+    by (yes l) = getD-replicate m j 0 0 l
+    by (no l) = List·getD-eq-default (replicate m 0) 0 {n = j} (omega (arith, length-replicate {A = ℕ} m 0))
+
+pub heap-none : (n : ℕ) (start tv off w need sides : List ℕ) (most : ℕ) → ((j : ℕ) → getD sides j 0 ≡ 0) → Heap n start tv off w need sides 0 most
+heap-none n start tv off w need sides most f = record { bound = λ x b m. omega (arith, sides-none n sides x f); small = λ i. omega (arith, f i); low = omega arith }
+
+pub heap-one : {n : ℕ} {start tv off w need : List ℕ} {h : ℕ} {sides₀ sides : List ℕ} {r : ℕ} → ((j : ℕ) → getD sides₀ j 0 ≡ 0) → Heaps n start tv off w need h sides₀ sides r → Heap n start tv off w need sides r (getD start (h + 1) 0 - getD start h 0)
+heap-one {n} {start} {tv} {off} {w} {need} {h} {sides₀} f q = record { bound = λ x b m. omega (arith, sides-none n sides₀ x f, q .bound x b m); small = λ i. omega (arith, f i, q .small i); low = q .low }
+
+pub heap-more : {n : ℕ} {start tv off w need : List ℕ} {h : ℕ} {sides₀ sides : List ℕ} {slack r most most′ : ℕ} → Heap n start tv off w need sides₀ slack most → Heaps n start tv off w need h sides₀ sides r
+    → most + (getD start (h + 1) 0 - getD start h 0) ≤ most′ → Heap n start tv off w need sides (slack + r) most′
+heap-more p q e = record { bound = λ x b m. omega (arith, p .bound x b m, q .bound x b m); small = λ i. omega (arith, p .small i, q .small i); low = omega (arith, p .low, q .low) }
+
+module _ {n i : ℕ} {start tv off w need sides d₀ d dear₀ dear : List ℕ} {slack most : ℕ} (p : Heap n start tv off w need sides slack most) (few : most ≤ maxTerms + maxTerms) (s : Settled (i * n) n sides d₀ d dear₀ dear) {caps₀ caps : List ℕ} (ce : caps ≡ set caps₀ i (slack - baseOf n sides)) (li : i < length caps₀) where
+  -- the cost with the base is what there is of the sides
+  pub ceiling-one : CeilingOne n start tv off w need i d₀ d dear₀ dear caps₀ caps
+  ceiling-one = subst (λ (c : List ℕ). CeilingOne n start tv off w need i d₀ d dear₀ dear caps₀ c) (sym ce) (record {
     gaps-same = s .gaps-same;
     dear-same = s .dear-same;
-    caps-same = length-set caps₀ i (weight - getD need h 0 - base);
+    caps-same = length-set caps₀ i (slack - baseOf n sides);
     gaps-below = s .gaps-below;
     dears-below = s .dears-below;
-    caps-below = λ j l. getD-set-other caps₀ i j (weight - getD need h 0 - base) 0 (λ z. omega arith);
+    caps-below = λ j l. getD-set-other caps₀ i j (slack - baseOf n sides) 0 (λ z. omega arith);
     ceiling = record {
       small = λ v l. omega (arith, s .gaps v l, gap-le (getD sides (v * 2) 0) (getD sides (v * 2 + 1) 0) (2 ^ 34) (omega (arith, p .small (v * 2))) (omega (arith, p .small (v * 2 + 1))));
       two = λ v l. subst (λ (x : ℕ). x < 2) (sym (s .dears v l)) (dear-two (getD sides (v * 2) 0) (getD sides (v * 2 + 1) 0));
-      bound = λ x b m. subst (λ (c : ℕ). cost n d dear (i * n) x ≤ c) (sym (getD-set-same caps₀ i (weight - getD need h 0 - base) 0 li)) (met-cost x b m);
+      bound = λ x b m. omega (arith, getD-set-same caps₀ i (slack - baseOf n sides) 0 li, cost-sides-of (i * n) n s x b, p .bound x b m);
     };
-  }
+  })
 
 -- ---- CeilingAll
 
-pub ceilings-none : (n : ℕ) (start tv off w need d dear caps : List ℕ) → CeilingAll n start tv off w need 0 d d dear dear caps caps
-ceilings-none n start tv off w need d dear caps = record { gaps-same = refl; dear-same = refl; caps-same = refl; each = λ i h. absurd (omega arith) }
+-- one ceiling is laid out, and counted or not
+pub ceilings-first : (n : ℕ) (start tv off w need d₀ d dear₀ dear caps₀ caps : List ℕ) (c : ℕ) → c ≤ 1 → CeilingOne n start tv off w need 0 d₀ d dear₀ dear caps₀ caps → CeilingAll n start tv off w need c d d dear dear caps caps
+ceilings-first n start tv off w need d₀ d dear₀ dear caps₀ caps c l p = record {
+  gaps-same = refl;
+  dear-same = refl;
+  caps-same = refl;
+  each = λ i h. subst (λ (k : ℕ). Ceiling n start tv off w need k d dear caps) (zero-is i (omega arith)) (p .ceiling);
+}
+  where
+    zero-is : (i : ℕ) → i < 1 → 0 ≡ i
+    zero-is i h = omega arith
+
+-- the runs as they were lent
+pub ceilings-from : {n : ℕ} {start tv off w need d₀ d₁ d dear₀ dear₁ dear caps₀ caps₁ caps : List ℕ} {c : ℕ} → CeilingOne n start tv off w need 0 d₀ d₁ dear₀ dear₁ caps₀ caps₁ → CeilingAll n start tv off w need c d₁ d dear₁ dear caps₁ caps
+    → CeilingAll n start tv off w need c d₀ d dear₀ dear caps₀ caps
+ceilings-from p q = record { gaps-same = q .gaps-same ∙ p .gaps-same; dear-same = q .dear-same ∙ p .dear-same; caps-same = q .caps-same ∙ p .caps-same; each = q .each }
 
 ceiling-frame : (n : ℕ) (start tv off w need : List ℕ) (i : ℕ) {d d′ dear dear′ caps caps′ : List ℕ} → ((v : ℕ) → v < n → getD d′ (i * n + v) 0 ≡ getD d (i * n + v) 0) → ((v : ℕ) → v < n → getD dear′ (i * n + v) 0 ≡ getD dear (i * n + v) 0)
     → getD caps′ i 0 ≡ getD caps i 0 → Ceiling n start tv off w need i d dear caps → Ceiling n start tv off w need i d′ dear′ caps′
@@ -141,17 +181,6 @@ base-more sides v =
   where
     here : v ≡ 0 + v
     here = omega arith
-
--- ---- Withholds, of all terms and of the run as it was lent
-
-pub withholds-as : {n : ℕ} {tv off w : List ℕ} {a j many : ℕ} {sides₀ sides₁ sides : List ℕ} → j ≡ many → length sides₁ ≡ length sides₀ → Withholds n tv off w a j sides₁ sides → Withholds n tv off w a many sides₀ sides
-withholds-as {n} {tv} {off} {w} {a} {j} {many} {sides₀} {sides₁} {sides} e l p =
-    subst (λ (k : ℕ). Withholds n tv off w a k sides₀ sides) e (record { same = p .same ∙ l; sums = p .sums; small = p .small })
-
--- ---- CeilingOne, the cap by another name
-
-pub ceiling-set : {n : ℕ} {start tv off w need : List ℕ} {i : ℕ} {d₀ d dear₀ dear caps : List ℕ} {c c′ : ℕ} → CeilingOne n start tv off w need i d₀ d dear₀ dear caps (set caps i c) → c′ ≡ c → CeilingOne n start tv off w need i d₀ d dear₀ dear caps (set caps i c′)
-ceiling-set {n} {start} {tv} {off} {w} {need} {i} {d₀} {d} {dear₀} {dear} {caps} p e = subst (λ (k : ℕ). CeilingOne n start tv off w need i d₀ d dear₀ dear caps (set caps i k)) (sym e) p
 
 -- ---- Ceiled
 

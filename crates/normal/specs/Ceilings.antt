@@ -1,7 +1,7 @@
 -- Half rows as objectives with a cap (rule R7): where a half row must reach most of its weight, what its terms withhold is small.
 use mathlib.Core.Path.{_≡_}
 use mathlib.Core.List.{List}
-use Prim.Native.Nat.{ℕ, _+_, _*_, _^_, _≤_, _<_}
+use Prim.Native.Nat.{ℕ, _+_, _-_, _*_, _^_, _≤_, _<_}
 use lib.ListN.{length, getD}
 use Rattle.charging.specs.Rows.{hit, span, cost, Meets}
 use Rattle.instance.specs.Limits.{maxCoef}
@@ -15,11 +15,24 @@ Bits n x = (v : ℕ) → v < n → x v < 2
 abbrev pub withheld : List ℕ → List ℕ → List ℕ → (ℕ → ℕ) → ℕ → ℕ → ℕ
 withheld tv off w x a many = span (λ (k : ℕ). hit (x (getD tv k 0)) (getD off k 0) (getD w k 0)) a many
 
--- The sides hold what the terms withhold; none is large.
-pub record Withholds (n : ℕ) (tv off w : List ℕ) (a many : ℕ) (sides₀ sides : List ℕ) : Type 0 where
+-- What the terms from a on withhold is added to the sides.
+pub record Piled (n : ℕ) (tv off w : List ℕ) (a many : ℕ) (sides₀ sides : List ℕ) : Type 0 where
   pub same : length sides ≡ length sides₀
-  pub sums : (x : ℕ → ℕ) → Bits n x → sidesOf n sides x ≡ withheld tv off w x a many
-  pub small : (i : ℕ) → getD sides i 0 ≤ many * maxCoef
+  pub sums : (x : ℕ → ℕ) → Bits n x → sidesOf n sides x ≡ sidesOf n sides₀ x + withheld tv off w x a many
+  pub small : (i : ℕ) → getD sides i 0 ≤ getD sides₀ i 0 + many * maxCoef
+
+-- What half row h withholds is added to the sides; where the rows are met that is r at most.
+pub record Heaps (n : ℕ) (start tv off w need : List ℕ) (h : ℕ) (sides₀ sides : List ℕ) (r : ℕ) : Type 0 where
+  pub same : length sides ≡ length sides₀
+  pub bound : (x : ℕ → ℕ) → Bits n x → Meets start tv off w need x → sidesOf n sides x ≤ sidesOf n sides₀ x + r
+  pub small : (i : ℕ) → getD sides i 0 ≤ getD sides₀ i 0 + (getD start (h + 1) 0 - getD start h 0) * maxCoef
+  pub low : r ≤ (getD start (h + 1) 0 - getD start h 0) * maxCoef
+
+-- What meets the rows has at most `slack` of the sides, to which `most` terms were added at most.
+pub record Heap (n : ℕ) (start tv off w need sides : List ℕ) (slack most : ℕ) : Type 0 where
+  pub bound : (x : ℕ → ℕ) → Bits n x → Meets start tv off w need x → sidesOf n sides x ≤ slack
+  pub small : (i : ℕ) → getD sides i 0 ≤ most * maxCoef
+  pub low : slack ≤ most * maxCoef
 
 -- The weights of the terms from a on.
 abbrev pub weightsIn : List ℕ → ℕ → ℕ → ℕ

@@ -1,17 +1,17 @@
 // Half rows as objectives with a cap (rule R7). A half row gives what all its terms weigh but for what those withhold that stand at the side where
 // they give nothing; so, where it is met, what is withheld is at most its weight less its need. That is a cost with a cap, and charging it
-// decides, say, rows that each ask for a site against a row that allows few.
-use crate::costs::clear;
-use crate::costs::settle;
+// decides, say, rows that each ask for a site against a row that allows few. The sum of half rows is a half row too: what they withhold
+// together is at most the sum of what each may.
 use crate::fill::Filled;
-ghost use mathlib.Core.Path.{_≡_};
+use crate::heaps::heap_row;
+use crate::heaps::lay_heap;
+use crate::heaps::weight_of;
 ghost use mathlib.Core.List.{List};
-ghost use Prim.Native.Nat.{ℕ, _+_, _-_, _*_, _^_, _≤_, _<_, min};
+ghost use Prim.Native.Nat.{ℕ, _+_, _*_, _^_, _≤_, _<_};
 ghost use lib.ListN.{length, getD};
 ghost use Rattle.charging.specs.Rows.{Table};
-ghost use Rattle.instance.specs.Limits.{maxCoef, maxTerms, maxVariable};
-ghost use Rattle.normal.specs.Costs.{baseOf};
-ghost use Rattle.normal.specs.Ceilings.{Withholds, weightsIn, CeilingOne, CeilingAll};
+ghost use Rattle.instance.specs.Limits.{maxCoef, maxTerms};
+ghost use Rattle.normal.specs.Ceilings.{Heaps, CeilingOne, CeilingAll};
 
 // A ceiling: how many terms a half row must have to be one, and how many ceilings are laid out at most.
 pub struct Ceiling {
@@ -21,83 +21,10 @@ pub struct Ceiling {
 impl Ceiling {
     pub const MIN_TERMS: usize = 8;
 
+    // How many terms a half row must have to be one of the sum.
+    pub const SUM_TERMS: usize = 3;
+
     pub const MAX_COUNT: usize = 4;
-}
-
-// Spreads what the `many` terms from `a` on withhold over the sides of their variables, from 0 on.
-fn withhold(
-    n: usize,
-    variables: &[usize],
-    offs: &[u8],
-    weights: &[u64],
-    a: usize,
-    many: usize,
-    sides: &mut [u64],
-)
-    requires { ⌜ (a + many ≤ length (now variables)) × (a + many ≤ length (now offs)) × (a + many ≤ length (now weights)) × (many ≤ maxTerms + maxTerms) ⌝ }
-    requires { ⌜ ((k : ℕ) → k < a + many → (getD (now variables) k 0 < n) × ((getD (now offs) k 0 < 2) × (getD (now weights) k 0 ≤ maxCoef))) ⌝ }
-    requires { ⌜ (n ≤ maxVariable) × (n * 2 ≤ length (now sides)) ⌝ }
-    ensures { λ _. ⌜ Withholds n (now (variables .entry)) (now (offs .entry)) (now (weights .entry)) a many (now (sides .entry)) (now (sides .exit)) ⌝ }
-{
-    clear(sides);
-    let mut k: usize = 0;
-    while k < many {
-        let at = variables[a + k] * 2 + offs[a + k] as usize;
-        sides[at] = sides[at] + weights[a + k];
-        k += 1;
-    }
-}
-
-// What the `many` terms from `a` on weigh.
-fn weight_of(weights: &[u64], a: usize, many: usize) -> u64
-    requires { ⌜ (a + many ≤ length (now weights)) × (many ≤ maxTerms + maxTerms) × ((k : ℕ) → k < a + many → getD (now weights) k 0 ≤ maxCoef) ⌝ }
-    ensures { λ r. ⌜ (r ≡ weightsIn (now (weights .entry)) a many) × (r ≤ many * maxCoef) ⌝ }
-{
-    let mut sum: u64 = 0;
-    let mut k: usize = 0;
-    while k < many {
-        sum = sum + weights[a + k];
-        k += 1;
-    }
-    sum
-}
-
-// The lesser of two.
-fn lesser(a: u64, b: u64) -> u64
-    ensures { λ r. ⌜ r ≡ min a b ⌝ }
-{
-    if b < a {
-        return b;
-    }
-    a
-}
-
-// What every assignment comes to at least.
-fn base_of(n: usize, sides: &[u64]) -> u64
-    requires { ⌜ (n ≤ maxVariable) × (n * 2 ≤ length (now sides)) × ((i : ℕ) → getD (now sides) i 0 ≤ 2 ^ 34) ⌝ }
-    ensures { λ r. ⌜ (r ≡ baseOf n (now (sides .entry))) × (r ≤ n * 2 ^ 34) ⌝ }
-{
-    let mut sum: u64 = 0;
-    let mut v: usize = 0;
-    while v < n {
-        sum = sum + lesser(sides[v * 2], sides[v * 2 + 1]);
-        v += 1;
-    }
-    sum
-}
-
-// What is left of the weight for the cost, 0 where the need and the base are more.
-fn cap_of(weight: u64, need: u64, base: u64) -> u64
-    ensures { λ r. ⌜ r ≡ weight - need - base ⌝ }
-{
-    if weight < need {
-        return 0;
-    }
-    let rest = weight - need;
-    if rest < base {
-        return 0;
-    }
-    rest - base
 }
 
 // Lays half row h out as ceiling i.
@@ -120,16 +47,13 @@ fn lay_ceiling(
     ensures { λ _. ⌜ CeilingOne n (now (starts .entry)) (now (variables .entry)) (now (offs .entry)) (now (weights .entry)) (now (needs .entry)) i (now (gaps .entry)) (now (gaps .exit)) (now (dears .entry)) (now (dears .exit)) (now (caps .entry)) (now (caps .exit)) ⌝ }
 {
     let mut sides = [0u64; Filled::SIDES];
-    let a = starts[h];
-    let many = starts[h + 1] - a;
-    withhold(n, variables, offs, weights, a, many, &mut sides);
-    settle(n, &sides, i * n, gaps, dears);
-    caps[i] = cap_of(weight_of(weights, a, many), needs[h], base_of(n, &sides));
+    let slack = heap_row(n, starts, variables, offs, weights, needs, h, &mut sides);
+    lay_heap(n, &sides, slack, i, gaps, dears, caps);
 }
 
-// Whether a half row of so many terms is worth a ceiling: it is long, and must reach more than half of what it weighs.
-fn is_tight(many: usize, weight: u64, need: u64) -> bool {
-    if many < Ceiling::MIN_TERMS {
+// Whether a half row is tight: it has so many terms at least, and must reach more than half of what it weighs.
+fn is_tight(terms: usize, many: usize, weight: u64, need: u64) -> bool {
+    if many < terms {
         return false;
     }
     if weight < need {
@@ -162,7 +86,12 @@ fn lay_if(
     }
     let a = starts[h];
     let many = starts[h + 1] - a;
-    if !is_tight(many, weight_of(weights, a, many), needs[h]) {
+    if !is_tight(
+        Ceiling::MIN_TERMS,
+        many,
+        weight_of(weights, a, many),
+        needs[h],
+    ) {
         return count;
     }
     lay_ceiling(
@@ -181,7 +110,79 @@ fn lay_if(
     count + 1
 }
 
-// Lays the first tight half rows out as ceilings, four at most, and answers how many.
+// Adds what half row h withholds to the sides, if it is tight; answers how much that is at most, 0 where it is not tight.
+fn heap_if(
+    n: usize,
+    starts: &[usize],
+    variables: &[usize],
+    offs: &[u8],
+    weights: &[u64],
+    needs: &[u64],
+    h: usize,
+    sides: &mut [u64],
+) -> u64
+    requires { ⌜ Table n (now starts) (now variables) (now offs) (now weights) (now needs) ⌝ }
+    requires { ⌜ (length (now variables) ≤ maxTerms + maxTerms) × ((k : ℕ) → getD (now weights) k 0 ≤ maxCoef) ⌝ }
+    requires { ⌜ (h < length (now needs)) × (n * 2 ≤ length (now sides)) × ((i : ℕ) → getD (now sides) i 0 ≤ 2 ^ 40) ⌝ }
+    ensures { λ r. ⌜ Heaps n (now (starts .entry)) (now (variables .entry)) (now (offs .entry)) (now (weights .entry)) (now (needs .entry)) h (now (sides .entry)) (now (sides .exit)) r ⌝ }
+{
+    let a = starts[h];
+    let many = starts[h + 1] - a;
+    if !is_tight(
+        Ceiling::SUM_TERMS,
+        many,
+        weight_of(weights, a, many),
+        needs[h],
+    ) {
+        return 0;
+    }
+    heap_row(n, starts, variables, offs, weights, needs, h, sides)
+}
+
+// 1 where a is at least b, else 0.
+fn reaches(a: u64, b: u64) -> u64
+    ensures { λ r. ⌜ r ≤ 1 ⌝ }
+{
+    if a < b {
+        return 0;
+    }
+    1
+}
+
+// Lays the sum of the tight half rows out as ceiling i; answers 1 where it is the sum of two or more, else 0. It decides, say, more things than
+// places, one thing in a place.
+fn lay_sum(
+    n: usize,
+    starts: &[usize],
+    variables: &[usize],
+    offs: &[u8],
+    weights: &[u64],
+    needs: &[u64],
+    i: usize,
+    gaps: &mut [u64],
+    dears: &mut [u8],
+    caps: &mut [u64],
+) -> usize
+    requires { ⌜ Table n (now starts) (now variables) (now offs) (now weights) (now needs) ⌝ }
+    requires { ⌜ (length (now variables) ≤ maxTerms + maxTerms) × ((k : ℕ) → getD (now weights) k 0 ≤ maxCoef) ⌝ }
+    requires { ⌜ (i * n + n ≤ length (now gaps)) × (i * n + n ≤ length (now dears)) × (i < length (now caps)) ⌝ }
+    ensures { λ r. ⌜ (r ≤ 1) × CeilingOne n (now (starts .entry)) (now (variables .entry)) (now (offs .entry)) (now (weights .entry)) (now (needs .entry)) i (now (gaps .entry)) (now (gaps .exit)) (now (dears .entry)) (now (dears .exit)) (now (caps .entry)) (now (caps .exit)) ⌝ }
+{
+    let mut sides = [0u64; Filled::SIDES];
+    let mut slack: u64 = 0;
+    let mut rows: u64 = 0;
+    let mut h: usize = 0;
+    while h < needs.len() {
+        let more = heap_if(n, starts, variables, offs, weights, needs, h, &mut sides);
+        slack = slack + more;
+        rows = rows + reaches(more, 1);
+        h += 1;
+    }
+    lay_heap(n, &sides, slack, i, gaps, dears, caps);
+    reaches(rows, 2) as usize
+}
+
+// Lays the sum of the tight half rows out as a ceiling, then the first tight ones that are long, four ceilings at most, and answers how many.
 pub fn lay_ceilings(
     n: usize,
     starts: &[usize],
@@ -198,7 +199,18 @@ pub fn lay_ceilings(
     requires { ⌜ (4 * n ≤ length (now gaps)) × (4 * n ≤ length (now dears)) × (4 ≤ length (now caps)) ⌝ }
     ensures { λ r. ⌜ (r ≤ 4) × CeilingAll n (now (starts .entry)) (now (variables .entry)) (now (offs .entry)) (now (weights .entry)) (now (needs .entry)) r (now (gaps .entry)) (now (gaps .exit)) (now (dears .entry)) (now (dears .exit)) (now (caps .entry)) (now (caps .exit)) ⌝ }
 {
-    let mut count: usize = 0;
+    let mut count = lay_sum(
+        n,
+        starts,
+        variables,
+        offs,
+        weights,
+        needs,
+        0,
+        gaps,
+        dears,
+        caps,
+    );
     let mut h: usize = 0;
     while h < needs.len() {
         count = lay_if(

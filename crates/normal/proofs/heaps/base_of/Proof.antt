@@ -5,8 +5,8 @@ use Prim.Native.Nat.{ℕ, _+_, _*_, _-_, _^_, _≤_}
 use native.Mathlib.Omega.{arith}
 use Rattle.normal.specs.Costs.{baseOf}
 use Rattle.normal.proofs.CeilingLaws.{base-none, base-more}
-use Rattle.normal.proofs.ceilings.base_of.Statement.{statement}
-use Rattle.normal.proofs.ceilings.base_of.Tie as tie
+use Rattle.normal.proofs.heaps.base_of.Statement.{statement}
+use Rattle.normal.proofs.heaps.base_of.Tie as tie
 
 abbrev Inv-loop : tie.InvT-loop
 Inv-loop n sides sum₀ v₀ sum v = (v ≤ n) × ((sum ≡ baseOf v sides) × (sum ≤ v * 2 ^ 34))

@@ -7,8 +7,8 @@ use lib.ListN.{getD}
 use Rattle.instance.specs.Limits.{maxCoef}
 use Rattle.charging.proofs.SumLaws.{span-none, span-more}
 use Rattle.normal.specs.Ceilings.{weightsIn}
-use Rattle.normal.proofs.ceilings.weight_of.Statement.{statement}
-use Rattle.normal.proofs.ceilings.weight_of.Tie as tie
+use Rattle.normal.proofs.heaps.weight_of.Statement.{statement}
+use Rattle.normal.proofs.heaps.weight_of.Tie as tie
 
 abbrev Inv-loop : tie.InvT-loop
 Inv-loop weights a many sum₀ k₀ sum k = (k ≤ many) × ((sum ≡ weightsIn weights a k) × (sum ≤ k * maxCoef))
