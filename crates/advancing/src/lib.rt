@@ -6,6 +6,8 @@
 // Points come from a stock in lent runs (crate seeking), which is gathered anew, by one search tree, only when it is empty and there was a limit.
 // A caller begins with the empty stock under the limit 0, which nothing comes before (stocked-empty), and goes on with the stock of the answer
 // after it has listed the point (stocked-more). Read specs/Next.antt and specs/Stocked.antt; proofs/NextLaws.antt has the argument.
+#![tactic(auto)]
+
 mod choices;
 
 ghost use Rattle.std.specs.Prelude.{◌-◌, ◌≤◌, length};

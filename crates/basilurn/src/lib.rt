@@ -9,6 +9,8 @@
 //
 // An answer is one 64-bit number: the refusal number (0 for done) in the upper 32 bits, the answer number in the lower 32
 // (specs/Words.antt). Each contract is that of the operation under it, over such a number.
+#![tactic(auto)]
+
 mod packing; // packing.rt: an answer as one number
 mod texts; // texts.rt: instance text
 mod judging; // judging.rt: one assignment

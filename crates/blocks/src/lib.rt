@@ -8,6 +8,8 @@
 // The caller lends the block and has made sure of the room. Read specs/Fields.antt and specs/Check.antt.
 // Laws for other crates: proofs/FieldLaws.antt (what is stored is read back, and the rest stays), proofs/ByteLaws.antt (numbers that are
 // equal have equal bytes), proofs/CheckLaws.antt (the check looks at no byte before the third; the worked example of the RFC).
+#![tactic(auto)]
+
 mod fields; // fields.rt: numbers in a block
 mod signs; // signs.rt: two's complement
 mod zeros; // zeros.rt: bytes that are zero

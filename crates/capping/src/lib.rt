@@ -3,6 +3,8 @@
 // caps(.., l, m, g, c, have, top, p, lb, cap)   charged lower bounds in lb; in cap, caps for all that is wanted below p; or that nothing is
 //
 // Points: the k numbers of point q begin at q * k, in l if it is listed and in g if it is gathered. Read specs/Caps.antt; proofs/CapLaws.antt has the argument.
+#![tactic(auto)]
+
 ghost use Rattle.std.specs.Prelude.{◌≡◌, ◌⊎◌, true, false, ℕ, ◌+◌, ◌-◌, ◌*◌, ◌<◌, ◌≤◌, length};
 ghost use Rattle.charging.specs.Rows.{Table, Meets, Costs};
 ghost use Rattle.capping.specs.Caps.{vec, less, at, Free, Fresh, Tight, Sought, Capped, Low};

@@ -10,6 +10,8 @@
 // gives w[k] unless its variable tv[k] stands at off[k]. Objectives: the n numbers of objective i begin at o = i * n; variable v costs d[o + v] where
 // it stands at dear[o + v]. A partial assignment is two words: `set` has the variables that are set, `one` those at 1.
 // All numbers are unsigned. Read specs/Rows.antt; proofs/ChargeLaws.antt has the argument.
+#![tactic(auto)]
+
 mod hints;
 mod sides;
 mod terms;

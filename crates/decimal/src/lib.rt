@@ -2,6 +2,8 @@
 // Lengths: decimal_len, integer_len, signed_len. Writing: put_byte, put_bytes, put_decimal, put_integer, put_signed.
 // Reading: read_numeral. Document 01, "Instance text" and "The listing program"; read specs/Decimal.antt and specs/Bytes.antt.
 // A put writes from `at` on and answers the place just after what it wrote; the caller has made sure of the room.
+#![tactic(auto)]
+
 ghost use Rattle.std.specs.Prelude.{◌≡◌, [], ◌∷◌, ◌+◌, ◌-◌, ◌<◌, ◌≤◌, nat_abs, length};
 ghost use Rattle.decimal.specs.Bytes.{overwrite};
 ghost use Rattle.decimal.specs.Decimal.{decimal, digit_byte, integer, signed, sign_byte, is_digit, read_numeral};

@@ -8,6 +8,8 @@
 // specs/Written.antt and specs/Taken.antt (the contracts).
 // Laws: proofs/AnswerLaws.antt (answers are determined), proofs/RoundLaws.antt (reading what was written, writing what was read),
 // proofs/CaseLaws.antt (case P11).
+#![tactic(auto)]
+
 mod sizes; // sizes.rt: the sizes of a file and where things stand
 mod put; // put.rt: a list as blocks
 mod layout; // layout.rt: whether blocks are as they should be

@@ -5,6 +5,8 @@
 // met, wanted                whether a complete part meets the rows, and is wanted
 //
 // Read specs/Finding.antt; proofs/FindLaws.antt has the argument.
+#![tactic(auto)]
+
 pub mod hints;
 
 ghost use Rattle.std.specs.Prelude.{true, false, ◌+◌, ◌-◌, ◌*◌, ◌<◌, ◌≤◌, length};

@@ -4,6 +4,8 @@
 // reduce(.., caps, p)   rows and caps, until nothing more is forced
 //
 // An assignment is wanted where it meets the rows and costs at most the cap by each objective. Read specs/Goals.antt.
+#![tactic(auto)]
+
 ghost use Rattle.std.specs.Prelude.{true, false, ◌+◌, ◌-◌, ◌*◌, ◌<◌, ◌≤◌, length, get_or};
 ghost use Rattle.charging.specs.Rows.{left, Table, Costs};
 ghost use Rattle.narrowing.specs.Parts.{Good, Cuts, Maybe};

@@ -6,6 +6,8 @@
 // then hold) and specs/Answers.antt (the contract). A caller needs proofs/AnswerLaws.antt and proofs/ProperLaws.antt beside them: answers are
 // determined, the list is complete, and it is proper.
 // The lister is built on what judging, `normal` and `advancing` promise, and on none of their code.
+#![tactic(auto)]
+
 mod order; // order.rt: the order of branching, a hint
 mod turns; // turns.rt: the order of rows, a hint
 mod put; // put.rt: one point into the runs

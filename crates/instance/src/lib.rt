@@ -6,6 +6,8 @@
 //
 // The caller lends the tables; nothing here writes to them, and numbers beyond the room are not read.
 // Read specs/Tables.antt (when tables are an instance), specs/Meaning.antt (what they mean), specs/Answers.antt (the contract).
+#![tactic(auto)]
+
 pub mod signed; // signed.rt: signed numbers as natural ones
 mod terms; // terms.rt: a term, and the highest variable of a run of terms
 mod entries; // entries.rt: an entry, and its four numbers

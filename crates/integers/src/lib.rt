@@ -1,5 +1,7 @@
 // Signed numbers by their size: the one function that leaves the signed numbers, and the laws that every crate above uses.
 // Read proofs/SignedLaws.antt for how a signed number is read from its bits and how its order goes by natural numbers.
+#![tactic(auto)]
+
 ghost use Rattle.std.specs.Prelude.{◌≡◌, nat_abs};
 
 // The size of a number.

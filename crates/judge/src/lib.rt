@@ -7,6 +7,8 @@
 // The caller lends the tables; nothing here writes to them.
 // Read specs/Judging.antt (the first unmet row, the four values) and specs/Answers.antt (the contract). A caller needs
 // proofs/AnswerLaws.antt beside them (VectorLaws, LowBitLaws and UnmetLaws tell more), and none of the code.
+#![tactic(auto)]
+
 pub mod bits; // bits.rt: bits of an assignment's number
 mod sums; // sums.rt: the value of a term, the sum of terms
 mod margins; // margins.rt: how far a row is from breaking, and the first row that is unmet

@@ -5,6 +5,8 @@
 // put_refused(out, number, statement)                          the line of a refusal
 //
 // Each answers how long the line is. A run of Line::LEN bytes has room for each. Read specs/Lines.antt.
+#![tactic(auto)]
+
 ghost use Rattle.std.specs.Prelude.{◌≡◌, ◌++◌, ◌∷◌, [], ◌+◌, ◌≤◌, pos, length, get_or};
 ghost use Rattle.decimal.specs.Bytes.{overwrite};
 ghost use Rattle.decimal.specs.Decimal.{decimal, integer};

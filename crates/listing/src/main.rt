@@ -1,6 +1,8 @@
 // The listing program (document 01, 'The listing program'): instance text on standard input, the listing of its front on standard output.
 // It lends room for 1,024 points and prints by the lines of the crate `lines`. Where standard input cannot be read it says why on standard
 // error and prints nothing; where standard output takes no more it stops.
+#![tactic(auto)]
+
 ghost use Rattle.std.specs.Prelude.{◌+◌, ◌*◌, ◌≤◌, length};
 
 use front::{Listed, list_front};

@@ -4,6 +4,8 @@
 //
 // With the vector of a point as caps, wanted is: meets the rows and costs at most that vector; as no feasible vector dominates
 // a point's, at most is equal. Read specs/Smallest.antt.
+#![tactic(auto)]
+
 ghost use Rattle.std.specs.Prelude.{◌+◌, ◌^◌, ◌<◌, ◌≤◌, length};
 ghost use Rattle.charging.specs.Rows.{bit, Table};
 ghost use Rattle.forcing.specs.Goals.{Objectives, Wanted};

@@ -4,6 +4,8 @@
 // pass(.., p)                 sets each variable without whose help a row cannot be met; or finds that p has no completion that meets the rows
 //
 // The tables are those of the crate charging. Read specs/Parts.antt; proofs/PartLaws.antt has the argument.
+#![tactic(auto)]
+
 ghost use Rattle.std.specs.Prelude.{◌≡◌, true, false, ◌+◌, ◌-◌, ◌<◌, ◌≤◌, ℕ, length, get_or};
 ghost use Rattle.charging.specs.Rows.{left, Terms, Table, Meets};
 ghost use Rattle.narrowing.specs.Parts.{of, Good, Put, Cuts, Maybe};

@@ -1,5 +1,7 @@
 // An instance in natural numbers: each row as one or two half rows, sums of weights that must reach a need.
 // Signed numbers end here: what searches for points counts in natural numbers alone. Read specs/Halves.antt.
+#![tactic(auto)]
+
 pub mod rows; // rows.rt: one half row laid out in runs
 pub mod fill; // fill.rt: the rows of an instance, one after the other
 pub mod costs; // costs.rt: objectives, by what each variable costs

@@ -7,6 +7,8 @@
 // Read specs/Vectors.antt (dominance and order), specs/Fronts.antt (the front of any candidates), specs/Lists.antt (when a list is proper).
 // Laws for other crates: proofs/FrontLaws.antt (a front is determined), proofs/OrderLaws.antt, proofs/ListLaws.antt and proofs/RunLaws.antt
 // (a front in lent runs rises and none of it dominates another).
+#![tactic(auto)]
+
 mod point; // point.rt: a point's limits
 mod vectors; // vectors.rt: two points compared
 mod lists; // lists.rt: each clause of a proper list, and all of them

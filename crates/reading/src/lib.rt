@@ -1,6 +1,8 @@
 // Reading instance text into lent tables: read_text.
 // Document 01, section 'Instance text', refusals 1 to 9. Read specs/Grammar.antt (what a statement says), specs/Reading.antt (what a text
 // says), specs/Answers.antt (the contract). Each crate file below is one step; all but `texts` are parts of reading and not for other callers.
+#![tactic(auto)]
+
 pub mod cells; // cells.rt: what a term and an entry leave in the tables
 pub mod terms; // terms.rt: a term, a run of terms
 pub mod statements; // statements.rt: one statement

@@ -7,6 +7,8 @@
 // A stock holds gathered points in lent runs. Where there is no room for one more, the greatest is left out and is a limit from then on: what
 // does not come before it is not sought. Each pruning rule enters by the contract of `reduce` alone.
 // Read specs/Stocks.antt and specs/Gathers.antt; proofs/StockLaws.antt and proofs/SeekLaws.antt have the argument.
+#![tactic(auto)]
+
 mod leaves;
 mod stocks;
 mod vectors;

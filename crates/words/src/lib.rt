@@ -1,5 +1,7 @@
 // The bytes of instance text: comments, blanks and words (here), and what a word says (module numbers).
 // Document 01, section 'Instance text'. Read specs/Bytes.antt and specs/Tokens.antt first.
+#![tactic(auto)]
+
 pub mod numbers;
 
 ghost use Rattle.std.specs.Prelude.{◌≡◌, ◌≤◌, length};

@@ -4,6 +4,8 @@
 //
 // The length of the text is known before a byte is written, so a refusal leaves the output as found.
 // Read specs/Writing.antt (the text), specs/Answers.antt (the contract), specs/Limits.antt (the longest text).
+#![tactic(auto)]
+
 mod terms; // terms.rt: a literal, a term, the terms of an entry
 mod statements; // statements.rt: an objective or a row
 
