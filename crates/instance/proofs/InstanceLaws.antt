@@ -2,7 +2,7 @@
 use mathlib.Core.Path.{◌≡◌, refl, sym, ap, ◌∙◌, subst}
 use mathlib.Core.Bool.{Bool, true, false, ◌||◌}
 use mathlib.Core.List.{List, Memᴰ}
-use Prim.Native.Nat.{ℕ, zero, suc, ◌+◌, ◌-◌, ◌*◌, ◌≤◌, ◌<◌}
+use Prim.Native.Nat.{ℕ, ◌+◌, ◌-◌, ◌*◌, ◌≤◌, ◌<◌}
 use native.Mathlib.Decide.{dec_lt}
 use native.Mathlib.Omega.{arith}
 use lib.Dec.{T}
@@ -11,15 +11,14 @@ use lib.ListN.{length}
 use lib.Signed.{non_neg}
 use mir.Syntax.{w64}
 use mir.Val.{SFits}
-use Rattle.instance.specs.Limits.{max_terms, max_entries, max_coef, max_variable, max_bound}
-use Rattle.instance.specs.Lists.{run}
+use Rattle.instance.specs.Limits.{max_entries, max_coef, max_variable, max_bound}
 use Rattle.instance.specs.Terms.{Term, TermOk, sum}
-use Rattle.instance.specs.Tables.{term_at, kind_at, first_at, count_at, is_kind, is_objective, is_row, objectives_in, rows_in, entries_in, terms_in, terms_before, IsInstance}
+use Rattle.instance.specs.Tables.{term_at, kind_at, first_at, count_at, is_kind, is_objective, is_row, objectives_in, entries_in, terms_in, terms_before, IsInstance}
 use Rattle.instance.specs.Meaning.{terms_at, entry_at, meaning}
 use Rattle.instance.specs.Structs.{entry_of, EntryFine, EntryIs}
 use Rattle.instance.specs.declared.entries.Entry.{Entry as EntryNumbers}
 use Rattle.instance.proofs.TestLaws.{is_kind-true}
-use Rattle.instance.proofs.ListLaws.{IsRun, run_is, tabulate-same, tabulate-length, tabulate-each, tabulate-member}
+use Rattle.instance.proofs.ListLaws.{run_is, tabulate-same, tabulate-length, tabulate-each, tabulate-member}
 use Rattle.instance.proofs.TableLaws.{terms_before-step, terms_before-le}
 use Rattle.instance.proofs.SumLaws.{highest-le, highest-member, sum-le, sum_bound, sum_fits}
 

@@ -118,8 +118,8 @@ module _ {i : Instance} (w : Within i) (ts rs : List ℤ) where
     stop = objectives-stop;
   })
 
-  rows_in : rows_in rows' ≡ length i.rows
-  rows_in =
+  rows-in : rows_in rows' ≡ length i.rows
+  rows-in =
       ap (λ (k : ℕ). run (is_row rows') k (max_entries - k)) objectives-in ∙ run-unique (is_row rows') (record {
         most = omega (arith, w.few_objectives, w.few_rows);
         below = λ j h.
@@ -131,7 +131,7 @@ module _ {i : Instance} (w : Within i) (ts rs : List ℤ) where
       })
 
   entries-in : entries_in rows' ≡ length es
-  entries-in = omega (arith, used, objectives-in, rows_in)
+  entries-in = omega (arith, used, objectives-in, rows-in)
 
   terms-before : (k : ℕ) → k ≤ length es → terms_before rows' k ≡ length (all_terms (take k es))
   terms-before = terms_before-read es more_rows
@@ -152,7 +152,7 @@ module _ {i : Instance} (w : Within i) (ts rs : List ℤ) where
       let o : m.objectives ≡ i.objectives = ap (tabulate (entry_at terms' rows') 0) objectives-in ∙ objectives-read in
       let r : m.rows ≡ i.rows =
       ap (λ (k : ℕ). tabulate (entry_at terms' rows') k (rows_in rows')) objectives-in
-      ∙ (ap (tabulate (entry_at terms' rows') (length i.objectives)) rows_in ∙ rows-read)
+      ∙ (ap (tabulate (entry_at terms' rows') (length i.objectives)) rows-in ∙ rows-read)
       in
       ap (λ (n : ℕ). instance_of n m.objectives m.rows) v
       ∙ (ap (λ (l : List Entry). instance_of i.variables l m.rows) o ∙ ap (instance_of i.variables i.objectives) r)
@@ -188,7 +188,7 @@ module _ {i : Instance} (w : Within i) (ts rs : List ℤ) where
     rows_room = filled-room row_room (entry_numbers 0 es) rs;
     some_objective = omega (arith, objectives-in, w.some_objective);
     few_objectives = omega (arith, objectives-in, w.few_objectives);
-    few_rows = omega (arith, rows_in, w.few_rows);
+    few_rows = omega (arith, rows-in, w.few_rows);
     unused = subst (λ (n : ℕ). ZeroFrom rows' (n * 4) row_room) (sym entries-in) unused-read;
     used = λ k h. entry-ok k (omega (arith, entries-in));
     few_terms = omega (arith, terms-in, w.few_terms);

@@ -1,17 +1,14 @@
 -- Laws of the tables' numbers: what the parts of the check tell, and what follows of an instance.
 use mathlib.Core.Path.{◌≡◌, refl, sym, ap, ◌∙◌, subst}
-use mathlib.Core.Bool.{Bool, true, false}
 use mathlib.Core.List.{List}
-use Prim.Native.Nat.{ℕ, zero, suc, ◌+◌, ◌-◌, ◌*◌, ◌≤◌, ◌<◌}
+use Prim.Native.Nat.{ℕ, zero, suc, ◌+◌, ◌-◌, ◌≤◌, ◌<◌}
 use native.Mathlib.Decide.{dec_lt}
 use native.Mathlib.Omega.{arith}
 use borrow.Author.Count.{below_more}
-use lib.Dec.{T}
 use lib.IntN.{ℤ, pos, nat_abs}
-use lib.ListN.{get_or, length}
-use lib.Signed.{non_neg}
+use lib.ListN.{get_or}
 use native.Mathlib.Numerals.{add-one}
-use Rattle.instance.specs.Limits.{max_terms, max_entries}
+use Rattle.instance.specs.Limits.{max_entries}
 use Rattle.instance.specs.Lists.{run}
 use Rattle.instance.specs.Tables.{ZeroFrom, EntryOk, terms_before, count_at, is_row, objectives_in, rows_in}
 use Rattle.instance.specs.Parts.{EntriesOk, EntryPlaced}

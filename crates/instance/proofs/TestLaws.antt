@@ -1,7 +1,7 @@
 -- Laws of `Decides`: what a flag tells in the arms of `if !flag`, and flags that decide; and of `isKind`.
 use mathlib.Core.Path.{◌≡◌, refl, subst, sym, ap, ◌∙◌}
-use mathlib.Core.Bool.{Bool, true, false, not, ◌||◌}
-use borrow.Author.Tests.{not-true, not-false, eqb-true, eq-eqb, ltb-true}
+use mathlib.Core.Bool.{Bool, true, false, ◌||◌}
+use borrow.Author.Tests.{eqb-true, eq-eqb, ltb-true}
 use Prim.Native.Nat.{ℕ}
 use native.Mathlib.Omega.{arith}
 use lib.Dec.{T, eqb}
@@ -12,11 +12,11 @@ use Rattle.instance.specs.Tables.{is_kind}
 
 -- ---- Decides
 module _ {t : Bool} {P : Type 0} (d : Decides t P) where
-  pub refused : not t ≡ true → P → ⊥
-  refused e = d.no (not-true t e)
+  pub refused : t ≡ false → P → ⊥
+  refused e = d.no e
 
-  pub accepted : not t ≡ false → P
-  accepted e = d.yes (not-false t e)
+  pub accepted : t ≡ true → P
+  accepted e = d.yes e
 
 pub holds : {P : Type 0} → P → Decides true P
 holds p = record { yes = λ e. p; no = λ e. absurd (subst T e tt) }

@@ -1,10 +1,9 @@
 -- Document 01, 'Instance tables': the numbers of the tables, and when tables are an instance.
-use Rattle.std.specs.Prelude.{◌≡◌, Bool, cond, true, false, ◌||◌, List, ℕ, zero, suc, ◌+◌, ◌-◌, ◌*◌, ◌≤◌, ◌<◌, T, eqb, ℤ, pos, negsuc, nat_abs, get_or, length}
+use Rattle.std.specs.Prelude.{◌≡◌, Bool, false, ◌||◌, List, ℕ, zero, suc, ◌+◌, ◌-◌, ◌*◌, ◌≤◌, ◌<◌, T, eqb, ℤ, pos, negsuc, nat_abs, get_or, length}
 use Rattle.std.specs.Int.Signed.{non_neg}
 use Rattle.instance.specs.Limits.{max_objectives, max_rows, max_terms, max_bound, max_entries, term_room, row_room}
-use Rattle.instance.specs.Lists.{tabulate, run}
+use Rattle.instance.specs.Lists.{run}
 use Rattle.instance.specs.Terms.{Term, TermOk}
-use Rattle.instance.specs.Rows.{Entry}
 
 -- Terms: two numbers for a term, coefficient and literal.
 abbrev pub term_at : List ℤ → ℕ → Term

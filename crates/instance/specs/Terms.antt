@@ -1,5 +1,5 @@
 -- Document 01, 'Instance text': the value of a term and of a sum; 'The front': an assignment's number.
-use Rattle.std.specs.Prelude.{Bool, not, cond, List, [], ◌∷◌, ℕ, suc, ◌-◌, ◌/◌, ◌%◌, ◌^◌, ◌≤◌, max, eqb, ℤ, pos, negsuc, nat_abs, ◌+ℤ◌}
+use Rattle.std.specs.Prelude.{Bool, not, cond, List, [], ◌∷◌, ℕ, ◌-◌, ◌/◌, ◌%◌, ◌^◌, ◌≤◌, max, eqb, ℤ, pos, negsuc, nat_abs, ◌+ℤ◌}
 use Rattle.instance.specs.Limits.{max_coef, max_variable}
 
 -- A coefficient and a literal, i for xi and -i for ~xi.

@@ -9,7 +9,7 @@ ghost use Rattle.instance.specs.Structs.{term_of};
 use crate::signed::magnitude32;
 
 // A coefficient and a literal, i for xi and -i for ~xi.
-#[derive(Drop)]
+#[derive(Clone, Copy)]
 pub struct Term {
     pub coef: i32,
     pub lit: i32,
