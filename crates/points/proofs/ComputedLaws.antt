@@ -141,15 +141,15 @@ module _ {Before : ℕ → ℕ → Type 0} (order : StrictOrder Before) (before 
         by (no l) = let e : x.model ≡ n = omega (arith, l, h.fits) in inl (candidate-same (h.value_is ∙ ap value e) e)
 
     -- Assignment n is added to the front of those below n where it is feasible.
-    pub front_below : (n : ℕ) → IsFront (Candidates feasible value n) Before (front_below feasible value before n)
+    pub front-below : (n : ℕ) → IsFront (Candidates feasible value n) Before (front_below feasible value before n)
     unfolding front_below added_if Rising
-    front_below zero = record {
+    front-below zero = record {
       members = λ x m. absurd (Memᴰ.not-nil m);
       rising = tt;
       apart = λ x y m. absurd (Memᴰ.not-nil m);
       complete = λ c h. absurd (omega (arith, h.fits));
     }
-    front_below (suc n) = by (feasible n) refl (front_below n)
+    front-below (suc n) = by (feasible n) refl (front-below n)
       where
         xs : List Candidate
         xs = front_below feasible value before n

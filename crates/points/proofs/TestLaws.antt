@@ -1,20 +1,20 @@
 -- What a test's flag tells of a longer test that starts with it, and whether an assignment has no bit from n up.
 use mathlib.Core.Path.{◌≡◌, refl, sym, ap, subst, ◌∙◌}
-use mathlib.Core.Bool.{Bool, true, false, not, cond, ◌&&◌}
+use mathlib.Core.Bool.{Bool, true, false, cond, ◌&&◌}
 use Prim.Native.Nat.{ℕ, ◌+◌, ◌*◌, ◌/◌, ◌^◌, ◌<◌}
 use native.Mathlib.Nat.{div-eq_of_lt, lt-div-mul-add}
 use native.Mathlib.Omega.{arith}
-use borrow.Author.Tests.{eqb-true, eqb-false, not-true, not-false}
+use borrow.Author.Tests.{eqb-true, eqb-false}
 use lib.Dec.{eqb}
 use lib.Pow.{pow_pos}
 use Rattle.instance.specs.Tests.{Decides}
 
 -- ---- and
-pub and-stop : {r a : Bool} (b : Bool) → r ≡ a → not r ≡ true → false ≡ (a && b)
-and-stop {r} {a} b e t = ap (λ (x : Bool). x && b) (sym (not-true r t) ∙ e)
+pub and-stop : {r a : Bool} (b : Bool) → r ≡ a → r ≡ false → false ≡ (a && b)
+and-stop {r} {a} b e t = ap (λ (x : Bool). x && b) (sym t ∙ e)
 
-pub and-go : {r a s b : Bool} → r ≡ a → not r ≡ false → s ≡ b → s ≡ (a && b)
-and-go {r} {a} {s} {b} e t f = f ∙ ap (λ (x : Bool). x && b) (sym (not-false r t) ∙ e)
+pub and-go : {r a s b : Bool} → r ≡ a → r ≡ true → s ≡ b → s ≡ (a && b)
+and-go {r} {a} {s} {b} e t f = f ∙ ap (λ (x : Bool). x && b) (sym t ∙ e)
 
 pub and-true : {r : Bool} (a : Bool) → r ≡ a → r ≡ (a && true)
 and-true true e = e

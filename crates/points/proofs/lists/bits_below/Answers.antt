@@ -1,0 +1,12 @@
+-- Below 64 the number shifted by n is 0 exactly where it is below 2 ^ n; a number of 64 bits has none from 64 up, nor from any higher n.
+use native.Mathlib.Nat.{lt_of_lt_of_le}
+use lib.Pow.{pow_mono}
+use Rattle.instance.proofs.TestLaws.{holds}
+use Rattle.points.proofs.TestLaws.{shift-decides}
+use Rattle.points.proofs.lists.bits_below.Goals as goal
+
+pub returns-then-n-lt-MAX_BITS : goal.returns-then-n-lt-MAX_BITS
+returns-then-n-lt-MAX_BITS c = shift-decides c.args.model c.args.n
+
+pub returns : goal.returns
+returns c = holds (lt_of_lt_of_le c.ranges.model.fits (pow_mono c.if-n-lt-MAX_BITS.false))
