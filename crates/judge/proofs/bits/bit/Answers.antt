@@ -1,7 +1,6 @@
 -- The last bit of a shifted number is its remainder by 2.
 use mathlib.Core.Path.{ap}
 use Prim.Native.Nat.{ℕ, ◌/◌, ◌^◌}
-use borrow.Author.Rules.{rules}
 use lib.Bits.{and_mask}
 use lib.Dec.{eqb}
 use Rattle.judge.proofs.bits.bit.Goals as goal

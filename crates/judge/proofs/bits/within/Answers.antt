@@ -1,7 +1,6 @@
 -- Below 64 the number shifted by n is 0 exactly where it is below 2 ^ n; a number of 64 bits has none from 64 up, nor from any higher n.
 use native.Mathlib.Nat.{lt_of_lt_of_le}
 use lib.Pow.{pow_mono}
-use borrow.Author.Rules.{rules}
 use Rattle.instance.proofs.TestLaws.{holds}
 use Rattle.judge.proofs.BitLaws.{shift-decides}
 use Rattle.judge.proofs.bits.within.Goals as goal

@@ -4,7 +4,6 @@ use mathlib.Core.Path.{ap, ◌∙◌, subst}
 use mathlib.Core.List.{List}
 use Prim.Native.Nat.{ℕ, ◌<◌, ◌^◌}
 use native.Mathlib.Omega.{arith}
-use borrow.Author.Rules.{rules}
 use mir.Syntax.{w64}
 use Rattle.instance.specs.Rows.{Entry}
 use Rattle.instance.specs.Tables.{objectives_in, rows_in}

@@ -1,15 +1,13 @@
 use mathlib.Core.Path.{◌≡◌, sym, ◌∙◌}
-use Prim.Native.Nat.{◌+◌, ◌-◌, ◌≤◌}
+use Prim.Native.Nat.{◌+◌}
 use native.Mathlib.Omega.{arith}
 use mir.Syntax.{w64}
 use mir.Val.{to_z, of_z}
-use Rattle.instance.specs.Lists.{tabulate}
 use Rattle.instance.specs.Rows.{Entry, margin}
 use Rattle.instance.specs.Meaning.{entry_at}
 use Rattle.integers.proofs.SignedLaws.{result_as}
-use Rattle.judge.specs.Judging.{first_unmet}
 use Rattle.judge.proofs.MarginLaws.{row-breaks, row-meets}
-use Rattle.judge.proofs.UnmetLaws.{unmet_left, left-start, left-next, left_here, left-none}
+use Rattle.judge.proofs.UnmetLaws.{left-start, left-next, left_here, left-none}
 use Rattle.judge.proofs.margins.first_unmet.Goals.{After-margin_at}
 use Rattle.judge.proofs.margins.first_unmet.Goals as goal
 
@@ -35,12 +33,11 @@ returns-then-margin_at-lt0 c =
     (row-breaks (row (goal.at.returns-then-margin_at-lt0 c).After-margin_at) c.args.a (to_z w64 (of_z w64 c.margin_at.result)) (measured (goal.at.returns-then-margin_at-lt0 c).After-margin_at) c.if-margin_at-lt0.true))
 
 pub loop-k-preserved : goal.loop-k-preserved
-loop-k-preserved c =
-    (
-      omega arith,
-      c.loop-k.invariant.1 ∙ left-next (entry_at c.args.terms.now c.args.rows.now) c.args.first c.args.count c.args.a c.loop-k.k c.loop-k-test.true
-          (row-meets (row (goal.at.loop-k-preserved c).After-margin_at) c.args.a (to_z w64 (of_z w64 c.margin_at.result)) (measured (goal.at.loop-k-preserved c).After-margin_at) c.if-margin_at-lt0.false),
-    )
+loop-k-preserved c = (
+  omega arith,
+  c.loop-k.invariant.1 ∙ left-next (entry_at c.args.terms.now c.args.rows.now) c.args.first c.args.count c.args.a c.loop-k.k c.loop-k-test.true
+      (row-meets (row (goal.at.loop-k-preserved c).After-margin_at) c.args.a (to_z w64 (of_z w64 c.margin_at.result)) (measured (goal.at.loop-k-preserved c).After-margin_at) c.if-margin_at-lt0.false),
+)
 
 pub returns : goal.returns
 returns c =
