@@ -8,7 +8,7 @@ use native.Mathlib.Omega.{arith}
 use borrow.Author.Tests.{ltb-true, ltb-false}
 use lib.Dec.{ltb}
 use Rattle.charging.proofs.SumLaws.{eq-or}
-use Rattle.capping.specs.Caps.{less, at}
+use Rattle.capping.specs.Caps.{less}
 
 pub no : {A : Type 0} → ◌≡◌ {A = Bool} true false → A
 no e = absurd (let z : ◌≡◌ {A = ℕ} 0 1 = cc in omega arith)

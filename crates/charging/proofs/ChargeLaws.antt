@@ -4,7 +4,7 @@
 -- on its dear side with something left to charge. Taking m off each such variable (m at most what is left at any of them) and adding m to the
 -- bound keeps: bound + what is left on dear sides ≤ cost, for every completion that meets the rows.
 use mathlib.Core.Path.{◌≡◌, sym, subst, ◌∙◌}
-use mathlib.Core.Logic.{◌⊎◌, ⊎_elim}
+use mathlib.Core.Logic.{⊎_elim}
 use mathlib.Core.List.{List}
 use Prim.Native.Nat.{ℕ, ◌+◌, ◌-◌, ◌^◌, ◌≤◌, ◌<◌}
 use native.Mathlib.Nat.{le_refl, not-suc-le-zero, zero-add}

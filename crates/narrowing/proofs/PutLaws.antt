@@ -1,11 +1,11 @@
 -- Setting a variable: its bit is 0 in both words, so adding 2 ^ v sets it, and one variable fewer is unset. Last, the part that sets nothing.
 use mathlib.Core.Path.{◌≡◌, refl, sym, subst, ◌∙◌}
-use mathlib.Core.Logic.{◌⊎◌, ⊎_elim}
+use mathlib.Core.Logic.{⊎_elim}
 use Prim.Native.Nat.{ℕ, suc, ◌+◌, ◌-◌, ◌*◌, ◌%◌, ◌^◌, ◌≤◌, ◌<◌, zero}
 use native.Mathlib.Nat.{le_refl, zero-add, one-mul, pow-succ', two-mul, mod-eq_of_lt}
 use lib.Pow.{pow_mono, pow_pos}
 use native.Mathlib.Omega.{arith}
-use Rattle.charging.specs.Rows.{hit, left, bit, seen}
+use Rattle.charging.specs.Rows.{hit, bit, seen}
 use Rattle.charging.proofs.SumLaws.{span-le, hit-le, span-drop, hit-eq, hit-ne, eq-or}
 use Rattle.charging.proofs.BitLaws.{bit-two, set_same, set_other, set-fits, seen-unset, seen-set}
 use Rattle.narrowing.specs.declared.Part.{Part}

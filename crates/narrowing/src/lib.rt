@@ -11,7 +11,7 @@ ghost use Rattle.charging.specs.Rows.{left, Terms, Table, Meets};
 ghost use Rattle.narrowing.specs.Parts.{of, Good, Put, Cuts, Maybe};
 
 // A partial assignment: the variables that are set, those at 1, and how many are unset.
-#[derive(Drop)]
+#[derive(Clone, Copy, Drop)]
 pub struct Part {
     pub set: u64,
     pub one: u64,
