@@ -47,8 +47,8 @@ both_t = s5 first_t (8 + 1 * 40) 5 3 0 0 5
 abbrev points_t : List ℕ
 points_t = sealed both_t
 
-head_of : HeadOf 2 3 2 head_t
-head_of = head-put (start 1 0) (begun 512 1 0 refl) 2 3 2
+head-of : HeadOf 2 3 2 head_t
+head-of = head-put (start 1 0) (begun 512 1 0 refl) 2 3 2
 
 points-of : (us : List ℤ) (ls : List ℕ) → PointsOf 1 0 2 (values_t us) (models_t ls) points_t
 points-of us ls =
@@ -112,7 +112,7 @@ pub record CaseP11 (k : ℕ) (left : List ℕ) : Type 0 where
 pub case-P11 : (us : List ℤ) (ls : List ℕ) {found left : List ℕ} {k : ℕ} → WrittenAs 2 3 2 (values_t us) (models_t ls) found left (Wrote k) → Bytes left → CaseP11 k left
 case-P11 us ls {left = left} w h =
     let g =
-    file-of w.proper file_t (subst (HeadOf 2 3 2) (sym block_0) head_of)
+    file-of w.proper file_t (subst (HeadOf 2 3 2) (sym block_0) head-of)
     (λ b s l.
     let e : 1 ≡ b = omega arith in
     subst (λ (j : ℕ). PointsOf j ((j - 1) * 12) (count_in 2 j) (values_t us) (models_t ls) (block_at file_t j)) e (subst (PointsOf 1 0 2 (values_t us) (models_t ls)) (sym block_1) (points-of us ls)))

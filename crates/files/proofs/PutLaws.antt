@@ -88,7 +88,7 @@ module _ (p : List ℕ) (b : Begun 1 0 p) (o n points : ℕ) where
       ∙ (u16-put16-after p 8 1 14 (omega arith) ∙ u16-zero p 14 (b.zeros 14 (omega arith) (omega arith)) (b.zeros 15 (omega arith) (omega arith))))))
 
   has-points : u32_at (sealed r4) 16 ≡ points
-  has_points = u32-put16-after r4 0 (check_of r4) 16 (omega arith) ∙ put32-same r3 16 points (omega (arith, l3))
+  has-points = u32-put16-after r4 0 (check_of r4) 16 (omega arith) ∙ put32-same r3 16 points (omega (arith, l3))
 
   pub head-put : HeadOf o n points (sealed r4)
   head-put = record {
