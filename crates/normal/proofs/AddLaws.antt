@@ -1,5 +1,5 @@
 -- One half row more is laid out. Assumes nothing.
-use mathlib.Core.Path.{◌≡◌, refl, sym, ap, ap₂, ◌∙◌, subst}
+use mathlib.Core.Path.{◌≡◌, sym, ap, ◌∙◌}
 use mathlib.Core.Bool.{Bool}
 use mathlib.Core.List.{List, [], ◌∷◌, ◌++◌, map, append_assoc, append-nil}
 use Prim.Native.Nat.{ℕ, zero, suc, ◌+◌, ◌*◌, ◌≤◌, ◌<◌, zero-le}
@@ -8,13 +8,13 @@ use native.Mathlib.Numerals.{add-one}
 use lib.IntN.{ℤ}
 use lib.ListN.{length, take, set, length-set, length-append}
 use lib.Seq.{take-suc-set}
-use Rattle.instance.specs.Limits.{max_coef, max_terms, max_bound}
+use Rattle.instance.specs.Limits.{max_coef}
 use Rattle.instance.specs.Parts.{TermsOk}
 use Rattle.instance.specs.Tables.{term_at}
 use Rattle.instance.specs.Lists.{tabulate}
 use Rattle.normal.specs.declared.Half.{Half}
 use Rattle.normal.specs.Halves.{half_of, lost_all, need_by}
-use Rattle.normal.specs.Rows.{halves_at, Goes, HalfPut, HalfRow, half_row_at, all_halves, starts_from, Laid, Room, Added}
+use Rattle.normal.specs.Rows.{halves_at, Goes, HalfPut, HalfRow, half_row_at, all_halves, starts_from, Room, Added}
 use Rattle.normal.proofs.LaidLaws.{map-append, halves-snoc, halves-length, lost-snoc, lost-le}
 
 -- ---- lost_all

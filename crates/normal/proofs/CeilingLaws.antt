@@ -9,7 +9,7 @@ use native.Mathlib.Omega.{arith}
 use native.Mathlib.Decide.{dec_lt}
 use lib.ListN.{length, get_or, set, take, replicate, length-set, length-replicate, get_or-replicate, get_or-eq_default}
 use lib.Seq.{get_or-set_same, get_or-set_other, get_or-take, length-take-le}
-use Rattle.charging.specs.Rows.{hit, miss, span, term, cost, Meets, Ceiled}
+use Rattle.charging.specs.Rows.{hit, miss, span, term, cost, Ceiled}
 use Rattle.charging.proofs.SumLaws.{span_none, span_more, eq-or, hit-eq, hit-ne, miss-eq, miss-ne}
 use Rattle.instance.specs.Limits.{max_coef, max_terms}
 use Rattle.normal.specs.Costs.{sides_of, base_of, Settled}

@@ -1,20 +1,17 @@
 -- What the terms of an objective give, spread over the sides of their variables. Assumes nothing.
 use mathlib.Core.Path.{◌≡◌, refl, sym, ap, ap₂, ◌∙◌, subst}
-use mathlib.Core.Bool.{Bool, true, false, cond}
+use mathlib.Core.Bool.{Bool, false, cond}
 use mathlib.Core.List.{List, [], ◌∷◌, ◌++◌}
-use Prim.Native.Nat.{ℕ, zero, suc, ◌+◌, ◌-◌, ◌*◌, ◌≤◌, ◌<◌, zero-le}
+use Prim.Native.Nat.{ℕ, zero, suc, ◌+◌, ◌-◌, ◌*◌, ◌≤◌, ◌<◌}
 use native.Mathlib.Omega.{arith}
 use native.Mathlib.Decide.{dec_lt}
-use native.Mathlib.Numerals.{add-one}
-use lib.Dec.{eqb}
-use lib.IntN.{ℤ, nat_abs}
+use lib.IntN.{ℤ}
 use lib.ListN.{length, get_or, set, length-set, get_or-eq_default}
 use lib.Seq.{get_or-set_same, get_or-set_other}
 use borrow.Author.Tests.{eq-eqb, ne_eqb}
 use Rattle.charging.specs.Rows.{span, bit}
 use Rattle.charging.proofs.BitLaws.{bit_word, bit-two}
 use Rattle.instance.specs.Limits.{max_coef}
-use Rattle.instance.specs.Terms.{TermOk}
 use Rattle.instance.specs.Tables.{term_at}
 use Rattle.instance.specs.Lists.{tabulate}
 use Rattle.normal.specs.declared.Half.{Half}

@@ -1,28 +1,26 @@
 -- The rows of an instance laid out one after the other. Assumes nothing.
-use mathlib.Core.Path.{◌≡◌, refl, sym, ap, ap₂, ◌∙◌, subst}
-use mathlib.Core.Bool.{Bool, true, false, not}
+use mathlib.Core.Path.{◌≡◌, refl, sym, ap, ◌∙◌, subst}
+use mathlib.Core.Bool.{true, false, not}
 use mathlib.Core.List.{List, [], ◌∷◌, ◌++◌, append_assoc, append-nil}
-use Prim.Native.Nat.{ℕ, zero, suc, ◌+◌, ◌≤◌, ◌<◌}
+use Prim.Native.Nat.{ℕ, ◌+◌, ◌≤◌, ◌<◌}
 use native.Mathlib.Omega.{arith}
 use lib.Dec.{eqb}
 use lib.IntN.{ℤ, nat_abs}
-use lib.ListN.{length, take, set, length-set, length-append, length-map}
+use lib.ListN.{length, set, length-set, length-append, length-map}
 use lib.Seq.{take-suc-set}
 use Rattle.instance.specs.Limits.{max_terms, max_bound}
 use Rattle.instance.specs.Parts.{TermsOk}
-use Rattle.instance.specs.Terms.{Term}
 use Rattle.instance.specs.Rows.{Entry}
 use Rattle.instance.specs.Layout.{all_terms}
 use Rattle.instance.specs.Lists.{tabulate}
-use Rattle.instance.specs.Tables.{term_at, first_at, count_at, bound_at, entries_in, terms_in, terms_before, IsInstance}
-use Rattle.instance.specs.Meaning.{terms_at, entry_at}
+use Rattle.instance.specs.Tables.{term_at, count_at, entries_in, terms_before, IsInstance}
+use Rattle.instance.specs.Meaning.{entry_at}
 use Rattle.instance.specs.Structs.{entry_of, EntryIs}
 use Rattle.instance.specs.declared.entries.Entry.{Entry as EntryNumbers}
 use Rattle.instance.proofs.ListLaws.{tabulate-snoc, tabulate-length}
 use Rattle.instance.proofs.TableLaws.{terms_before-step, terms_before-le}
 use Rattle.instance.proofs.InstanceLaws.{entry-as, entry-inside}
-use Rattle.normal.specs.declared.Half.{Half}
-use Rattle.normal.specs.Halves.{half_of, halves_of}
+use Rattle.normal.specs.Halves.{half_of}
 use Rattle.normal.specs.Rows.{HalfRow, all_halves, starts_from, Laid}
 use Rattle.normal.specs.Grown.{if_wanted, half_row, half_rows_of, half_rows_all, Grown, Rooms}
 use Rattle.normal.proofs.GrownLaws.{all_halves-append, wanted-few}

@@ -1,17 +1,17 @@
 -- The half rows that are laid out are met exactly where all rows hold. Assumes nothing.
-use mathlib.Core.Path.{◌≡◌, refl, sym, ap, ap₂, ◌∙◌, subst}
-use mathlib.Core.Logic.{◌⊎◌, inl, inr, ⊎_elim}
+use mathlib.Core.Path.{◌≡◌, refl, sym, ap, subst}
+use mathlib.Core.Logic.{⊎_elim}
 use mathlib.Core.Bool.{Bool, true, false, not}
 use mathlib.Core.List.Memᴰ
-use mathlib.Core.List.{List, [], ◌∷◌, ◌++◌, map, Memᴰ}
-use Prim.Native.Nat.{ℕ, zero, suc, ◌+◌, ◌≤◌, ◌<◌}
+use mathlib.Core.List.{List, [], ◌∷◌, map, Memᴰ}
+use Prim.Native.Nat.{ℕ, zero, suc, ◌≤◌, ◌<◌}
 use native.Mathlib.Omega.{arith}
 use lib.Dec.{eqb}
 use lib.ListN.{length, get_or, length-map, get_or-map}
 use borrow.Author.Tests.{ne_eqb, eqb-false, not-true}
 use Rattle.charging.specs.Rows.{Meets, bit}
 use Rattle.instance.specs.Rows.{Entry, holds}
-use Rattle.normal.specs.Halves.{gives_all, HalfMet, RowMet}
+use Rattle.normal.specs.Halves.{gives_all, RowMet}
 use Rattle.normal.specs.Rows.{HalfRow, all_halves, starts_from}
 use Rattle.normal.specs.Grown.{if_wanted, half_row, half_rows_of, half_rows_all}
 use Rattle.normal.proofs.RowLaws.{holds-met, met_holds}

@@ -1,7 +1,7 @@
 -- What a half row needs, computed in signed numbers of 64 bits. Assumes nothing.
 use mathlib.Core.Path.{◌≡◌, refl, sym, ap, ap₂, ◌∙◌, subst}
 use mathlib.Core.Bool.{Bool, true, false}
-use Prim.Native.Nat.{ℕ, ◌+◌, ◌^◌, ◌≤◌, ◌<◌}
+use Prim.Native.Nat.{ℕ, ◌+◌, ◌≤◌}
 use native.Mathlib.Omega.{arith}
 use lib.Dec.{T}
 use lib.IntN.{ℤ, pos, negsuc, nat_abs, neg_ℤ, ◌+ℤ◌, ◌-ℤ◌, +ℤ_idl}
@@ -10,7 +10,7 @@ use borrow.Author.Tests.{ltb-true}
 use mir.Syntax.{w64}
 use mir.Val.{SFits, Fits, to_z, of_z}
 use mir.Facts.{to_z-of_z}
-use Rattle.integers.proofs.SignedLaws.{fits-as, read_as, cast-as, sfits-abs, abs-add, abs_neg, bits-value}
+use Rattle.integers.proofs.SignedLaws.{fits-as, read_as, sfits-abs, abs-add, abs_neg, bits-value}
 use Rattle.instance.specs.Limits.{max_bound}
 use Rattle.normal.specs.Halves.{turned, at_least_zero, need_by}
 

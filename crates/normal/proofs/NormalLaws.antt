@@ -107,10 +107,10 @@ module _ {ts rs : List ℤ} (is : IsInstance ts rs) {k m : ℕ} (ke : k ≡ obje
   all : half_rows_all (tabulate (entry_at ts rs) k m) ≡ half_rows_all (meaning ts rs).rows
   all = ap half_rows_all (ap₂ (λ (a b : ℕ). tabulate (entry_at ts rs) a b) ke me)
 
-  pub few_halves : halves ≤ max_rows + max_rows
-  few_halves = omega (arith, l.halves_is, ap length all, (all-few (meaning ts rs).rows).0, (instance-within is).few_rows)
+  pub few-halves : halves ≤ max_rows + max_rows
+  few-halves = omega (arith, l.halves_is, ap length all, (all-few (meaning ts rs).rows).0, (instance-within is).few_rows)
 
-  pub few_terms : used ≤ max_terms + max_terms
+  pub few-terms : used ≤ max_terms + max_terms
   few-terms =
       omega
       (arith, l.used_is, ap (λ (hs : List HalfRow). length (all_halves hs)) all, (all-few (meaning ts rs).rows).1, (instance-within is).few_terms, ap length (all_terms-append (meaning ts rs).objectives (meaning ts rs).rows), length-append (all_terms (meaning ts rs).objectives) (all_terms (meaning ts rs).rows))

@@ -1,8 +1,8 @@
 -- An objective in natural numbers: its cost differs from its value by what is the same for every assignment. Assumes nothing.
-use mathlib.Core.Path.{◌≡◌, refl, sym, ap, ap₂, ◌∙◌, subst}
+use mathlib.Core.Path.{◌≡◌, ap, ◌∙◌}
 use mathlib.Core.Bool.{false}
 use mathlib.Core.List.{List}
-use Prim.Native.Nat.{ℕ, ◌+◌, ◌≤◌, ◌<◌}
+use Prim.Native.Nat.{ℕ, ◌+◌, ◌≤◌}
 use native.Mathlib.Omega.{arith}
 use lib.IntN.{ℤ, pos, ◌+ℤ◌}
 use lib.Signed.{◌≤ℤ◌}
@@ -23,8 +23,8 @@ objective-cost ts first count n o p s a = ap pos (cost-sides o n s a ∙ p.sums 
 
 -- so the order of costs is the order of values
 module _ {x y : ℤ} (b l c e : ℕ) (p : pos (c + b) ≡ x +ℤ pos l) (q : pos (e + b) ≡ y +ℤ pos l) where
-  pub cost_le : x ≤ℤ y → c ≤ e
+  pub cost-le : x ≤ℤ y → c ≤ e
   cost-le h = omega (arith, le-to h, ap up p, ap dn p, ap up q, ap dn q, parts_add x (pos l), parts_add y (pos l))
 
-  pub value_le : c ≤ e → x ≤ℤ y
+  pub value-le : c ≤ e → x ≤ℤ y
   value-le h = le_from (omega (arith, ap up p, ap dn p, ap up q, ap dn q, parts_add x (pos l), parts_add y (pos l)))

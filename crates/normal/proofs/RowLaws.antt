@@ -1,18 +1,17 @@
 -- A row holds exactly where its half rows are met. Assumes nothing.
-use mathlib.Core.Path.{◌≡◌, refl, sym, ap, ap₂, ◌∙◌, subst}
-use mathlib.Core.Logic.{◌⊎◌, inl, inr, ⊎_elim}
+use mathlib.Core.Path.{◌≡◌, refl, sym, ap, ap₂, subst}
+use mathlib.Core.Logic.{⊎_elim}
 use mathlib.Core.Bool.{Bool, true, false, cond}
-use mathlib.Core.List.{List, map}
-use Prim.Native.Nat.{ℕ, zero, suc, ◌+◌, ◌≤◌, ◌<◌}
+use Prim.Native.Nat.{ℕ, zero, suc, ◌+◌, ◌≤◌}
 use native.Mathlib.Omega.{arith}
 use lib.Dec.{T, eqb}
 use lib.IntN.{ℤ, pos, negsuc, nat_abs, neg_ℤ, ◌+ℤ◌, ◌-ℤ◌}
 use lib.Signed.{le_z, ◌≤ℤ◌}
 use borrow.Author.Tests.{eq-eqb, ne_eqb}
 use Rattle.integers.proofs.SignedLaws.{up, dn, parts_add, neg-parts, one-part, abs-parts, le-to, le_from}
-use Rattle.instance.specs.Terms.{Term, sum}
-use Rattle.instance.specs.Rows.{Entry, margin_of, margin, holds}
-use Rattle.normal.specs.Halves.{turned, half_of, halves_of, gives_all, lost_all, at_least_zero, need_of, HalfMet, RowMet}
+use Rattle.instance.specs.Terms.{sum}
+use Rattle.instance.specs.Rows.{Entry, margin, holds}
+use Rattle.normal.specs.Halves.{turned, halves_of, gives_all, lost_all, at_least_zero, HalfMet, RowMet}
 use Rattle.normal.proofs.HalfLaws.{halves-give}
 
 -- ---- tests of integers as facts

@@ -1,10 +1,10 @@
 -- The runs of half rows are a table that the search can use. Assumes nothing.
-use mathlib.Core.Path.{◌≡◌, refl, sym, ap, ap₂, ◌∙◌, subst}
+use mathlib.Core.Path.{◌≡◌, refl, sym, ap, ◌∙◌, subst}
 use mathlib.Core.Logic.{⊎_elim}
 use mathlib.Core.Bool.{Bool, true, false, not}
 use mathlib.Core.List.Memᴰ
-use mathlib.Core.List.{List, [], ◌∷◌, ◌++◌, map, Memᴰ}
-use Prim.Native.Nat.{ℕ, zero, suc, ◌+◌, ◌-◌, ◌^◌, ◌≤◌, ◌<◌}
+use mathlib.Core.List.{List, [], ◌∷◌, map, Memᴰ}
+use Prim.Native.Nat.{ℕ, zero, suc, ◌+◌, ◌^◌, ◌≤◌, ◌<◌}
 use native.Mathlib.Omega.{arith}
 use native.Mathlib.Decide.{dec_lt}
 use lib.Dec.{eqb}
@@ -16,7 +16,7 @@ use Rattle.instance.specs.Terms.{Term, TermOk}
 use Rattle.instance.specs.Rows.{Entry}
 use Rattle.instance.specs.Layout.{all_terms}
 use Rattle.normal.specs.declared.Half.{Half}
-use Rattle.normal.specs.Halves.{is_negative, off_side, half_of, halves_of}
+use Rattle.normal.specs.Halves.{is_negative, off_side, half_of}
 use Rattle.normal.specs.Rows.{HalfRow, all_halves, starts_from}
 use Rattle.normal.specs.Grown.{if_wanted, half_row, half_rows_of, half_rows_all}
 use Rattle.normal.proofs.SpanLaws.{variables_of, offs_of, weights_of, starts-head}

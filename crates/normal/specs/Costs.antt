@@ -1,5 +1,5 @@
 -- Objectives in natural numbers: what each variable costs on each side, and then on its dear side alone.
-use Rattle.std.specs.Prelude.{◌≡◌, Bool, true, false, cond, List, ℕ, ◌+◌, ◌-◌, ◌*◌, ◌≤◌, ◌<◌, min, ltb, ℤ, length, get_or, ◌≤ℤ◌}
+use Rattle.std.specs.Prelude.{◌≡◌, false, cond, List, ℕ, ◌+◌, ◌-◌, ◌*◌, ◌≤◌, ◌<◌, min, ltb, ℤ, length, get_or, ◌≤ℤ◌}
 use Rattle.charging.specs.Rows.{span, bit, cost}
 use Rattle.instance.specs.Limits.{max_coef, max_bound}
 use Rattle.instance.specs.Terms.{sum}

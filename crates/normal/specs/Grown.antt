@@ -1,5 +1,5 @@
 -- Runs that grow by half rows.
-use Rattle.std.specs.Prelude.{◌≡◌, Bool, true, false, not, List, [], ◌∷◌, ◌++◌, ℕ, ◌+◌, ◌≤◌, eqb, ℤ, length}
+use Rattle.std.specs.Prelude.{◌≡◌, Bool, true, false, not, List, [], ◌∷◌, ◌++◌, ℕ, ◌+◌, ◌≤◌, eqb, length}
 use Rattle.instance.specs.Rows.{Entry}
 use Rattle.normal.specs.Halves.{halves_of, need_of}
 use Rattle.normal.specs.Rows.{HalfRow, all_halves, Laid}

@@ -1,5 +1,5 @@
 -- Half rows laid out in runs, one number a term in each.
-use Rattle.std.specs.Prelude.{◌≡◌, Bool, List, [], ◌∷◌, map, ◌++◌, ℕ, ◌+◌, ◌≤◌, ◌<◌, ℤ, length, take, drop}
+use Rattle.std.specs.Prelude.{◌≡◌, Bool, List, [], ◌∷◌, map, ◌++◌, ℕ, ◌+◌, ◌≤◌, ◌<◌, ℤ, length, take}
 use Rattle.instance.specs.Meaning.{terms_at}
 use Rattle.normal.specs.declared.Half.{Half}
 use Rattle.normal.specs.Halves.{half_of, lost_all, need_by}
