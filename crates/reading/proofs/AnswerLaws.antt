@@ -1,22 +1,20 @@
 -- What reading a text answers and leaves, case by case; two answers that the contract allows are equal. Assumes nothing.
 use mathlib.Core.Path.{◌≡◌, refl, sym, ap, ap₂, ◌∙◌}
 use mathlib.Core.Bool.{Bool, true, false, cond, ◌||◌}
-use mathlib.Core.List.{List, [], ◌∷◌, ◌++◌}
+use mathlib.Core.List.{List, [], ◌++◌}
 use Prim.Native.Nat.{ℕ, ◌-◌, ◌≤◌, ◌<◌}
 use native.Mathlib.Omega.{arith}
 use lib.Dec.{ltb}
 use lib.IntN.{ℤ, pos}
 use lib.ListN.{length, drop, replicate}
 use borrow.Author.Tests.{lt-ltb, le-ltb}
-use Rattle.instance.specs.Limits.{max_terms, term_room, row_room}
-use Rattle.instance.specs.Terms.{highest}
-use Rattle.instance.specs.Rows.{Entry}
+use Rattle.instance.specs.Limits.{term_room, row_room}
 use Rattle.instance.specs.Layout.{term_numbers, all_terms, entry_numbers, filled, term_table, row_table}
 use Rattle.reading.specs.declared.texts.TextRead.{TextRead}
 use Rattle.reading.specs.declared.texts.TextRead.TheVariants.{Done, ShortTable, LongText}
 use Rattle.reading.specs.declared.verdicts.Reading.{Reading}
 use Rattle.reading.specs.Limits.{max_text}
-use Rattle.reading.specs.Reading.{Outcome, accepted, refused, read_bytes}
+use Rattle.reading.specs.Reading.{Outcome, read_bytes}
 use Rattle.reading.specs.Outcomes.{AllTaken, ReadIs}
 use Rattle.reading.specs.Answers.{refusal_of, answer_of, entries_of, is_short, is_long, read_answer, read_terms, read_rows}
 use Rattle.reading.proofs.FillLaws.{fill-beyond, fill-length}

@@ -1,31 +1,27 @@
 -- The end of a statement: from a run of terms to what the statement says. Assumes nothing.
-use mathlib.Core.Path.{◌≡◌, refl, sym, ap, ap₂, ◌∙◌, subst}
-use mathlib.Core.Bool.{Bool, true, false, cond, ◌||◌}
-use mathlib.Core.List.{List, [], ◌∷◌, ◌++◌}
-use mathlib.Core.Option.{Option, none, some}
-use Prim.Native.Nat.{ℕ, zero, suc, ◌≤◌, ◌<◌}
+use mathlib.Core.Path.{◌≡◌, refl, sym, ap, ap₂, ◌∙◌}
+use mathlib.Core.Bool.{Bool, true, false, ◌||◌}
+use mathlib.Core.List.{List, [], ◌∷◌}
+use mathlib.Core.Option.{Option, none}
+use Prim.Native.Nat.{ℕ, ◌≤◌}
 use native.Mathlib.Omega.{arith}
-use lib.Dec.{eqb, ltb}
-use lib.IntN.{ℤ, pos, nat_abs}
+use lib.Dec.{ltb}
+use lib.IntN.{ℤ, pos}
 use lib.ListN.{length, drop}
-use Rattle.words.specs.declared.Place.{Place}
 use Rattle.words.specs.declared.Place.TheVariants.{Inside}
-use Rattle.words.specs.declared.Token.{Token}
 use Rattle.words.specs.Tokens.{Mark, word, stop, marks_at}
-use Rattle.words.specs.Numbers.{number, relation, is_min}
+use Rattle.words.specs.Numbers.{relation}
 use Rattle.words.specs.Answers.{NextToken, part}
 use Rattle.words.proofs.ByteLaws.{clash}
 use Rattle.words.proofs.TokenLaws.{token-none, token-stop, token-word, token-cases}
 use Rattle.instance.specs.Limits.{max_bound}
-use Rattle.instance.specs.Terms.{Term, highest}
-use Rattle.instance.specs.Rows.{Entry}
 use Rattle.reading.specs.declared.terms.Run.{Run}
 use Rattle.reading.specs.declared.statements.Bound.{Bound}
 use Rattle.reading.specs.declared.statements.Statement.{Statement}
-use Rattle.reading.specs.Grammar.{Words, objective, row, row_end, statement}
-use Rattle.reading.specs.Reading.{any, is_wide, is_unnamed}
-use Rattle.reading.specs.Stored.{value, stored}
-use Rattle.reading.specs.Steps.{first_words, is_closed, rest_after, add_terms, Reached, Kept, RunIs, RunEnd, IsBound, BoundIs, EntryRead, Closing, StatementIs}
+use Rattle.reading.specs.Grammar.{objective, row, row_end}
+use Rattle.reading.specs.Reading.{any, is_wide}
+use Rattle.reading.specs.Stored.{value}
+use Rattle.reading.specs.Steps.{first_words, is_closed, rest_after, add_terms, RunIs, RunEnd, IsBound, BoundIs, Closing}
 use Rattle.reading.proofs.CellLaws.{value-abs}
 use Rattle.reading.proofs.ParseLaws.{adds_none}
 use Rattle.reading.proofs.RunLaws.{or-none}
@@ -144,7 +140,7 @@ module _ {text : List ℕ} {first base : ℕ} {before after : List ℤ} {r : Run
         kind_some = λ y. omega arith;
         broken = λ _ c. run.reached.row_as
             ∙ ap (add_terms run.terms) (ap (λ (m : List Mark). row (first_words m)) marks-here
-            ∙ q.no_bound z (sym (run.reached.closed_as ∙ ap is_closed marks-here) ∙ c) (part text r.stop.start r.stop.end) relation-some)
+            ∙ q.no_bound z (sym (run.reached.closed_as ∙ ap is_closed marks-here) ∙ c) (part text r.stop.start r.stop.end) relation_some)
             ∙ adds_none run.terms;
         entry_read = λ m. absurd (m j);
       }
@@ -155,13 +151,13 @@ module _ {text : List ℕ} {first base : ℕ} {before after : List ℤ} {r : Run
       unfolding first_words is_closed rest_after
       row_done {b} q {kind} {bound} {wide} f g h = record {
         kept = e.kept;
-        kind_some = λ z. relation-some (sym f ∙ z);
+        kind_some = λ z. relation_some (sym f ∙ z);
         broken = λ z. absurd (omega (arith, relation-le (part text r.stop.start r.stop.end)));
         entry_read = λ _. record {
           entry = record { kind = relation (part text r.stop.start r.stop.end); terms = run.terms; bound = value b.value };
           parsed = run.reached.row_as
               ∙ ap (add_terms run.terms) (ap (λ (m : List Mark). row (first_words m)) all
-              ∙ row-bound (part text r.stop.start r.stop.end) q.bound_word [] relation-some
+              ∙ row-bound (part text r.stop.start r.stop.end) q.bound_word [] relation_some
               ∙ ap (λ (z : Option ℤ). row_end (relation (part text r.stop.start r.stop.end)) z []) q.says)
               ∙ adds-last run.terms (relation (part text r.stop.start r.stop.end)) (value b.value);
           closed = run.reached.closed_as ∙ ap is_closed all;

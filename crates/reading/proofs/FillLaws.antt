@@ -1,21 +1,20 @@
 -- Tables that grow by one entry. Assumes nothing.
-use mathlib.Core.Path.{◌≡◌, refl, sym, ap, ap₂, ◌∙◌, subst}
-use mathlib.Core.Bool.{Bool, true, false, ◌||◌}
+use mathlib.Core.Path.{◌≡◌, refl, sym, ap, ap₂, ◌∙◌}
+use mathlib.Core.Bool.{false}
 use mathlib.Core.List.{List, [], ◌∷◌, ◌++◌, append_assoc, append-nil}
 use Prim.Native.Nat.{ℕ, zero, suc, ◌+◌, ◌-◌, ◌*◌, ◌≤◌, ◌<◌}
 use native.Mathlib.Omega.{arith}
-use native.Mathlib.Numerals.{add-one}
 use lib.IntN.{ℤ, pos}
-use lib.ListN.{length, take, drop, set, replicate, length-append, length-replicate, length-drop, drop_of_length-le}
-use lib.Seq.{take_at, drop_at, drop-append-add, drop-append-le, set_at, sets, sets-eq, drop-drop}
+use lib.ListN.{length, take, drop, set, replicate, length-append, length-replicate, length-drop}
+use lib.Seq.{take_at, drop_at, drop-append-add, drop-append-le, set_at, sets, sets-eq}
 use Rattle.words.proofs.ByteLaws.{or-neither}
-use Rattle.instance.specs.Limits.{max_terms, max_rows, max_objectives, max_entries, term_room, row_room}
+use Rattle.instance.specs.Limits.{max_terms, max_entries, term_room, row_room}
 use Rattle.instance.specs.Terms.{Term}
 use Rattle.instance.specs.Rows.{Entry}
 use Rattle.instance.specs.Layout.{term_numbers, all_terms, entry_numbers, filled, term_table, row_table}
 use Rattle.instance.proofs.NumberLaws.{all_terms-append, term_numbers-append, term_numbers-length, entry_numbers-append, entry_numbers-length}
 use Rattle.reading.specs.Reading.{any, is_wide, is_unnamed}
-use Rattle.reading.specs.Stored.{store_at, stored}
+use Rattle.reading.specs.Stored.{stored}
 use Rattle.reading.proofs.CellLaws.{store-yes}
 
 -- ---- filled

@@ -1,16 +1,16 @@
 -- The statements of a text, taken one by one from its marks. Assumes nothing.
-use mathlib.Core.Path.{◌≡◌, refl, sym, ap, ap₂, ◌∙◌, subst}
+use mathlib.Core.Path.{◌≡◌, refl, sym, ap, ◌∙◌}
 use mathlib.Core.Bool.{Bool, true, false, not}
-use mathlib.Core.List.{List, [], ◌∷◌, ◌++◌}
+use mathlib.Core.List.{List, [], ◌∷◌}
 use mathlib.Core.Option.{Option, none, some}
-use Prim.Native.Nat.{ℕ, zero, suc, ◌≤◌}
+use Prim.Native.Nat.{ℕ, suc, ◌≤◌}
 use native.Mathlib.Omega.{arith}
 use lib.ListN.{length}
 use Rattle.words.specs.Tokens.{Mark, word, stop}
 use Rattle.words.proofs.ByteLaws.{clash}
 use Rattle.instance.specs.Rows.{Entry}
-use Rattle.reading.specs.Grammar.{Words, Statements, add_word, statements, statement}
-use Rattle.reading.specs.Reading.{Outcome, accepted, refused, verdict, is_first, go_on, add_to, take_one, finish, read_on, read_marks}
+use Rattle.reading.specs.Grammar.{Statements, add_word, statements, statement}
+use Rattle.reading.specs.Reading.{refused, verdict, is_first, go_on, add_to, take_one, finish, read_on, read_marks}
 use Rattle.reading.specs.Steps.{first_words, is_closed, rest_after}
 
 -- ---- statements

@@ -1,33 +1,29 @@
 -- The statements of a text in turn: what holds before each, and what reading comes to. Assumes nothing.
 use mathlib.Core.Path.{◌≡◌, refl, sym, ap, ap₂, ◌∙◌, subst}
-use mathlib.Core.Bool.{Bool, true, false, not, cond, ◌||◌}
+use mathlib.Core.Bool.{Bool, true, false, not, cond}
 use mathlib.Core.List.{List, [], ◌∷◌, ◌++◌}
-use Prim.Native.Nat.{ℕ, zero, suc, ◌+◌, ◌-◌, ◌*◌, ◌≤◌, ◌<◌, max}
+use Prim.Native.Nat.{ℕ, zero, suc, ◌+◌, ◌-◌, ◌≤◌}
 use native.Mathlib.Omega.{arith}
-use native.Mathlib.Numerals.{add-one}
 use lib.Dec.{eqb}
-use lib.IntN.{ℤ, pos}
+use lib.IntN.{ℤ}
 use lib.ListN.{length, take, drop, length-append, length-drop}
-use lib.Seq.{take_all, drop-drop, sets}
+use lib.Seq.{take_all}
 use borrow.Author.Tests.{eq-eqb, ne_eqb}
 use Rattle.words.specs.declared.Place.{Place}
-use Rattle.words.specs.declared.Place.TheVariants.{Inside, Start}
-use Rattle.words.specs.Tokens.{Mark, marks_at}
+use Rattle.words.specs.Tokens.{marks_at}
 use Rattle.instance.specs.Limits.{max_objectives, max_rows, max_terms, max_entries, term_room, row_room}
-use Rattle.instance.specs.Terms.{Term, highest}
+use Rattle.instance.specs.Terms.{highest}
 use Rattle.instance.specs.Rows.{Entry}
 use Rattle.instance.specs.Layout.{all_terms, term_numbers, entry_numbers, term_table, row_table}
-use Rattle.instance.proofs.SumLaws.{highest-append}
 use Rattle.reading.specs.declared.statements.Statement.{Statement}
 use Rattle.reading.specs.declared.verdicts.Reading.{Reading}
 use Rattle.reading.specs.Grammar.{statement}
-use Rattle.reading.specs.Reading.{Outcome, accepted, refused, is_first, verdict, go_on, add_to, finish, read_marks, read_bytes}
-use Rattle.reading.specs.Stored.{stored}
-use Rattle.reading.specs.Steps.{first_words, is_closed, rest_after, Kept, EntryRead, Closing, StatementIs}
-use Rattle.reading.specs.Outcomes.{place_at, late_by, full_by, verdict_by, AllTaken, ReadIs}
-use Rattle.reading.proofs.FillLaws.{fill-length, fill-beyond, terms-room, rows-room, all_terms-last, terms-next, rows_next}
+use Rattle.reading.specs.Reading.{Outcome, refused, is_first, verdict, go_on, add_to, finish, read_marks, read_bytes}
+use Rattle.reading.specs.Steps.{rest_after, Kept, EntryRead, StatementIs}
+use Rattle.reading.specs.Outcomes.{place_at, late_by, full_by, verdict_by, ReadIs}
+use Rattle.reading.proofs.FillLaws.{fill-length, fill-beyond, terms-room, rows-room}
 use Rattle.reading.proofs.MarksLaws.{marks-broken, marks-entry, marks-none}
-use Rattle.reading.proofs.VerdictLaws.{Fine, verdict-as, verdict-zero, added-last, added-objectives, added-rows}
+use Rattle.reading.proofs.VerdictLaws.{verdict-as}
 
 -- What holds before each statement: the entries so far, which the tables hold; and what is left of the text decides what it says.
 pub record Taking (text : List ℕ) (found rows now rows' : List ℤ) (at number objectives others total top : ℕ) : Type 0 where

@@ -2,15 +2,13 @@
 use mathlib.Core.Path.{◌≡◌, refl, sym, ap, ap₂, ◌∙◌, subst}
 use mathlib.Core.Bool.{Bool, true, false, cond, ◌||◌}
 use mathlib.Core.List.{List, [], ◌∷◌, ◌++◌}
-use Prim.Native.Nat.{ℕ, zero, suc, ◌+◌, ◌*◌, ◌^◌, ◌≤◌, ◌<◌, max}
+use Prim.Native.Nat.{ℕ, suc, ◌+◌, ◌*◌, ◌≤◌, ◌<◌, max}
 use native.Mathlib.Decide.{dec_lt}
 use native.Mathlib.Omega.{arith}
-use lib.Dec.{ltb}
 use lib.IntN.{ℤ, nat_abs}
 use lib.ListN.{length, drop, set, length-set, length-append}
 use lib.Seq.{drop-set-lt}
 use Rattle.words.specs.declared.Place.TheVariants.{Inside}
-use Rattle.words.specs.declared.numbers.Number.{Number}
 use Rattle.words.specs.Tokens.{Mark, marks_at}
 use Rattle.instance.specs.Limits.{max_terms, term_room}
 use Rattle.instance.specs.Terms.{Term, highest}

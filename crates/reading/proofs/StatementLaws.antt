@@ -1,28 +1,25 @@
 -- What the words of a statement say, once its terms are read. Assumes nothing.
 use mathlib.Core.Path.{◌≡◌, refl, sym, ap, ap₂, ◌∙◌, subst}
-use mathlib.Core.Bool.{Bool, true, false, cond, ◌||◌}
-use mathlib.Core.List.{List, [], ◌∷◌, ◌++◌}
+use mathlib.Core.Bool.{Bool, true, false, cond}
+use mathlib.Core.List.{List, [], ◌∷◌}
 use mathlib.Core.Option.{Option, none, some}
-use Prim.Native.Nat.{ℕ, zero, suc, ◌≤◌, ◌<◌}
+use Prim.Native.Nat.{ℕ, ◌≤◌}
 use native.Mathlib.Omega.{arith}
 use lib.Dec.{eqb}
-use lib.IntN.{ℤ, pos}
-use lib.ListN.{length, drop}
+use lib.IntN.{ℤ}
+use lib.ListN.{drop}
 use borrow.Author.Tests.{ne_eqb, eqb-true}
-use Rattle.words.specs.declared.Place.{Place}
 use Rattle.words.specs.declared.Place.TheVariants.{Inside}
 use Rattle.words.specs.declared.Token.{Token}
-use Rattle.words.specs.Tokens.{Mark, word, stop, marks_at}
-use Rattle.words.specs.Numbers.{number, literal, relation, is_min}
+use Rattle.words.specs.Tokens.{Mark, word, marks_at}
+use Rattle.words.specs.Numbers.{number, literal, relation}
 use Rattle.words.specs.Answers.{NextToken, part}
 use Rattle.words.proofs.ByteLaws.{clash}
 use Rattle.words.proofs.TokenLaws.{token-none, token-stop, token-word, token-cases}
 use Rattle.decimal.specs.Decimal.{is_numeral, all_digits}
 use Rattle.instance.specs.Terms.{Term}
-use Rattle.instance.specs.Rows.{Entry}
-use Rattle.reading.specs.Grammar.{Words, term_of, add_term, objective, row, row_step, row_end, statement}
-use Rattle.reading.specs.Steps.{first_words, is_closed, rest_after, add_terms, Reached, NoBound}
-use Rattle.reading.proofs.ParseLaws.{adds_none}
+use Rattle.reading.specs.Grammar.{Words, term_of, add_term, objective, row, row_step, row_end}
+use Rattle.reading.specs.Steps.{first_words, is_closed, add_terms, NoBound}
 
 -- ---- relation
 

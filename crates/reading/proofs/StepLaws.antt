@@ -1,13 +1,13 @@
 -- What a token tells of the statement that it stands in. Assumes nothing.
-use mathlib.Core.Path.{◌≡◌, refl, sym, ap, ◌∙◌, subst}
-use mathlib.Core.List.{List, [], ◌∷◌}
-use mathlib.Core.Option.{Option, none, some}
-use Prim.Native.Nat.{ℕ, ◌^◌, ◌≤◌, ◌<◌}
+use mathlib.Core.Path.{◌≡◌, sym, ap, ◌∙◌, subst}
+use mathlib.Core.List.{List, ◌∷◌}
+use mathlib.Core.Option.{none, some}
+use Prim.Native.Nat.{ℕ, ◌^◌, ◌<◌}
 use native.Mathlib.Omega.{arith}
-use lib.ListN.{length, drop}
+use lib.ListN.{drop}
 use Rattle.words.specs.declared.Place.TheVariants.{Inside}
 use Rattle.words.specs.declared.Token.{Token}
-use Rattle.words.specs.Tokens.{Mark, word, stop, marks_at}
+use Rattle.words.specs.Tokens.{Mark, word, marks_at}
 use Rattle.words.specs.Numbers.{number, literal, relation}
 use Rattle.words.specs.Answers.{NextToken, part}
 use Rattle.words.proofs.TokenLaws.{token-none, token-stop, token-word, token-cases}

@@ -1,5 +1,5 @@
 -- One statement more is taken: the tables hold its entry, and the rest of the text decides. Assumes nothing.
-use mathlib.Core.Path.{◌≡◌, refl, sym, ap, ap₂, ◌∙◌, subst}
+use mathlib.Core.Path.{◌≡◌, sym, ap, ap₂, ◌∙◌, subst}
 use mathlib.Core.Bool.{Bool, not, cond}
 use mathlib.Core.List.{List, [], ◌∷◌, ◌++◌}
 use Prim.Native.Nat.{ℕ, suc, ◌+◌, ◌-◌, ◌*◌, ◌≤◌, ◌<◌, max}
@@ -16,15 +16,15 @@ use mir.Facts.{to_z-of_z}
 use Rattle.words.specs.declared.Place.{Place}
 use Rattle.words.specs.declared.Place.TheVariants.{Inside, Start}
 use Rattle.words.specs.Tokens.{Mark, marks_at}
-use Rattle.instance.specs.Limits.{max_objectives, max_rows, max_terms, max_entries, max_bound, row_room}
-use Rattle.instance.specs.Terms.{Term, highest}
+use Rattle.instance.specs.Limits.{max_terms, max_entries, max_bound, row_room}
+use Rattle.instance.specs.Terms.{highest}
 use Rattle.instance.specs.Rows.{Entry}
 use Rattle.instance.specs.Layout.{all_terms, term_table, row_table}
 use Rattle.integers.proofs.SignedLaws.{sfits-abs}
 use Rattle.instance.proofs.SumLaws.{highest-append}
 use Rattle.reading.specs.declared.statements.Statement.{Statement}
 use Rattle.reading.specs.Grammar.{statement}
-use Rattle.reading.specs.Reading.{is_first, verdict, go_on, add_to, read_marks, read_bytes}
+use Rattle.reading.specs.Reading.{is_first, verdict, go_on, add_to, read_marks}
 use Rattle.reading.specs.Stored.{stored}
 use Rattle.reading.specs.Steps.{rest_after, EntryRead}
 use Rattle.reading.specs.Outcomes.{place_at}

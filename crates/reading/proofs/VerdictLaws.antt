@@ -2,15 +2,14 @@
 use mathlib.Core.Path.{◌≡◌, refl, sym, ap, ap₂, ◌∙◌}
 use mathlib.Core.Bool.{Bool, true, false, not, cond, ◌||◌, ◌&&◌}
 use mathlib.Core.List.{List, [], ◌∷◌, ◌++◌, append_assoc, append-nil}
-use Prim.Native.Nat.{ℕ, zero, suc, ◌+◌, ◌-◌, ◌≤◌, ◌<◌}
+use Prim.Native.Nat.{ℕ, suc, ◌+◌, ◌-◌, ◌≤◌}
 use native.Mathlib.Omega.{arith}
-use lib.Dec.{eqb, ltb, leb}
+use lib.Dec.{ltb, leb}
 use lib.IntN.{nat_abs}
 use lib.ListN.{length, length-append}
 use borrow.Author.Tests.{ltb-false, leb-false}
 use Rattle.words.proofs.ByteLaws.{or-neither}
 use Rattle.instance.specs.Limits.{max_objectives, max_rows, max_terms, max_bound}
-use Rattle.instance.specs.Terms.{Term}
 use Rattle.instance.specs.Rows.{Entry}
 use Rattle.instance.specs.Layout.{all_terms}
 use Rattle.reading.specs.Reading.{any, is_wide, is_unnamed, is_first, is_full, verdict, add_to}

@@ -1,35 +1,23 @@
 -- A whole statement, by its first token and the end that was read. Assumes nothing.
-use mathlib.Core.Path.{◌≡◌, refl, sym, ap, ap₂, ◌∙◌, subst}
-use mathlib.Core.Bool.{Bool, true, false, cond, ◌||◌}
-use mathlib.Core.List.{List, [], ◌∷◌, ◌++◌}
-use mathlib.Core.Option.{Option, none, some}
-use Prim.Native.Nat.{ℕ, zero, suc, ◌≤◌, ◌<◌}
+use mathlib.Core.Path.{◌≡◌, refl, sym, ap, ◌∙◌}
+use mathlib.Core.Bool.{Bool, true, false, cond}
+use mathlib.Core.List.{List, ◌∷◌}
+use mathlib.Core.Option.{Option}
+use Prim.Native.Nat.{ℕ}
 use native.Mathlib.Omega.{arith}
-use lib.Dec.{eqb, ltb}
-use lib.IntN.{ℤ, pos, nat_abs}
+use lib.IntN.{ℤ}
 use lib.ListN.{length, drop}
 use Rattle.words.specs.declared.Place.{Place}
 use Rattle.words.specs.declared.Place.TheVariants.{Inside}
 use Rattle.words.specs.declared.Token.{Token}
-use Rattle.words.specs.Tokens.{Mark, word, stop, marks_at}
-use Rattle.words.specs.Numbers.{number, relation, is_min}
+use Rattle.words.specs.Tokens.{Mark, marks_at}
+use Rattle.words.specs.Numbers.{is_min}
 use Rattle.words.specs.Answers.{NextToken, part}
-use Rattle.words.proofs.ByteLaws.{clash}
-use Rattle.words.proofs.TokenLaws.{token-none, token-stop, token-word, token-cases}
-use Rattle.instance.specs.Limits.{max_bound}
-use Rattle.instance.specs.Terms.{Term, highest}
+use Rattle.words.proofs.TokenLaws.{token-none, token-stop, token-word}
 use Rattle.instance.specs.Rows.{Entry}
-use Rattle.reading.specs.declared.terms.Run.{Run}
-use Rattle.reading.specs.declared.statements.Bound.{Bound}
 use Rattle.reading.specs.declared.statements.Statement.{Statement}
-use Rattle.reading.specs.Grammar.{Words, objective, row, row_end, statement}
-use Rattle.reading.specs.Reading.{any, is_wide, is_unnamed}
-use Rattle.reading.specs.Stored.{value, stored}
-use Rattle.reading.specs.Steps.{first_words, is_closed, rest_after, add_terms, Reached, Kept, RunIs, RunEnd, IsBound, BoundIs, EntryRead, Closing, StatementIs}
-use Rattle.reading.proofs.CellLaws.{value-abs}
-use Rattle.reading.proofs.ParseLaws.{adds_none}
-use Rattle.reading.proofs.RunLaws.{or-none}
-use Rattle.reading.proofs.StatementLaws.{adds-last, objective-relation, relation-le, row-bound}
+use Rattle.reading.specs.Grammar.{Words, objective, row, statement}
+use Rattle.reading.specs.Steps.{first_words, is_closed, rest_after, Closing, StatementIs}
 
 -- ---- a whole statement
 

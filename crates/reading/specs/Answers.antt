@@ -1,5 +1,5 @@
 -- Document 01, 'Refusal numbers' and 'Orders': what reading a text answers, and what it leaves in both tables.
-use Rattle.std.specs.Prelude.{◌≡◌, Bool, true, false, cond, ◌||◌, List, [], ◌++◌, ℕ, ◌≤◌, eqb, ltb, ℤ, length}
+use Rattle.std.specs.Prelude.{Bool, cond, ◌||◌, List, [], ◌++◌, ℕ, eqb, ltb, ℤ, length}
 use Rattle.instance.specs.Limits.{term_room, row_room}
 use Rattle.instance.specs.Terms.{highest}
 use Rattle.instance.specs.Rows.{Entry}

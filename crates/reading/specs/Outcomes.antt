@@ -1,5 +1,5 @@
 -- What the loop over the statements answers, before the tables are cleared on a refusal.
-use Rattle.std.specs.Prelude.{◌≡◌, Bool, cond, ◌&&◌, List, ◌++◌, ℕ, ◌+◌, ◌≤◌, eqb, ltb, leb, ℤ, drop}
+use Rattle.std.specs.Prelude.{◌≡◌, Bool, cond, ◌&&◌, List, ◌++◌, ℕ, eqb, ltb, leb, ℤ, drop}
 use Rattle.words.specs.declared.Place.{Place}
 use Rattle.words.specs.declared.Place.TheVariants.{Inside, Start}
 use Rattle.instance.specs.Limits.{max_objectives, max_rows, max_terms, term_room, row_room}

@@ -1,5 +1,5 @@
 -- Document 01, 'Instance text', 'Refusal numbers' 1 to 9 and their order.
-use Rattle.std.specs.Prelude.{Bool, true, false, not, cond, ◌||◌, ◌&&◌, List, [], ◌∷◌, ◌++◌, ℕ, zero, suc, ◌+◌, eqb, ltb, leb, ℤ, nat_abs, length}
+use Rattle.std.specs.Prelude.{Bool, true, false, not, cond, ◌||◌, ◌&&◌, List, [], ◌∷◌, ◌++◌, ℕ, zero, suc, ◌+◌, eqb, ltb, leb, nat_abs, length}
 use Rattle.std.proofs.Math.Option.{Option, none, some}
 use Rattle.words.specs.declared.Place.TheVariants.{Start}
 use Rattle.words.specs.Tokens.{Mark, marks_at}
@@ -8,7 +8,7 @@ use Rattle.instance.specs.Terms.{Term, highest}
 use Rattle.instance.specs.Rows.{Entry}
 use Rattle.instance.specs.Meaning.{Instance}
 use Rattle.instance.specs.Layout.{all_terms}
-use Rattle.reading.specs.Grammar.{Words, Statements, statements, statement}
+use Rattle.reading.specs.Grammar.{Words, statements, statement}
 
 -- Some term of the list has p.
 unfoldable pub any : (Term → Bool) → List Term → Bool

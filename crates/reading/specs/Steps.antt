@@ -1,13 +1,12 @@
 -- What the reader's parts answer: a term, a run of terms, a statement.
 use Rattle.std.specs.Prelude.{◌≡◌, Bool, true, false, ◌||◌, List, [], ◌∷◌, ℕ, ◌^◌, ◌≤◌, ◌<◌, ltb, ℤ, nat_abs, length, drop}
 use Rattle.std.proofs.Math.Option.{Option, none, some}
-use Rattle.words.specs.declared.Place.{Place}
 use Rattle.words.specs.declared.Place.TheVariants.{Inside}
 use Rattle.words.specs.declared.Token.{Token}
 use Rattle.words.specs.declared.numbers.Number.{Number}
 use Rattle.words.specs.Tokens.{Mark, word, stop, marks_at}
 use Rattle.words.specs.Numbers.{number, literal, relation}
-use Rattle.words.specs.Answers.{NextToken, part, marks_from}
+use Rattle.words.specs.Answers.{NextToken, part}
 use Rattle.instance.specs.Limits.{max_bound, term_room}
 use Rattle.instance.specs.Terms.{Term, highest}
 use Rattle.instance.specs.Rows.{Entry}

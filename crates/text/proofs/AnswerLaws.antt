@@ -1,5 +1,5 @@
--- The round trip by what the two operations promise: `write_text` writes `text_of` of its tables, `read_text` answers `readAnswer` and
--- leaves `readTerms` and `readRows`. Assumes nothing.
+-- The round trip by what the two operations promise: `write_text` writes `text_of` of its tables, `read_text` answers `read_answer` and
+-- leaves `read_terms` and `read_rows`. Assumes nothing.
 use mathlib.Core.Path.{◌≡◌, refl, sym, ap, ap₂, ◌∙◌, subst}
 use mathlib.Core.Bool.{Bool, true, false, cond, ◌||◌}
 use mathlib.Core.List.{List, ◌++◌}

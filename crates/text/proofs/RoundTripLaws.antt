@@ -35,7 +35,7 @@ filled-anywhere room xs a b h = filled-take room xs a h ∙ sym (filled-take roo
 
 module _ {i : Instance} (w : Within i) (a b : List ℤ) where
   terms-anywhere : take term_room (term_table (entries i) a) ≡ take term_room (term_table (entries i) b)
-  terms_anywhere = filled-anywhere term_room (term_numbers (all_terms (entries i))) a b (omega (arith, w.few_terms, term_numbers-length (all_terms (entries i))))
+  terms-anywhere = filled-anywhere term_room (term_numbers (all_terms (entries i))) a b (omega (arith, w.few_terms, term_numbers-length (all_terms (entries i))))
 
   rows-anywhere : take row_room (row_table (entries i) a) ≡ take row_room (row_table (entries i) b)
   rows-anywhere =

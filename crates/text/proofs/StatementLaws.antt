@@ -15,7 +15,7 @@ use lib.ListN.{get_or}
 use Rattle.decimal.specs.Decimal.{integer, sign_byte, signed, max_digits}
 use Rattle.words.specs.declared.Place.TheVariants.{Inside, Start}
 use Rattle.words.specs.Tokens.{Mark, word, stop, marks_at}
-use Rattle.words.specs.Numbers.{relation, is_min}
+use Rattle.words.specs.Numbers.{is_min}
 use Rattle.instance.specs.Terms.{Term, TermOk}
 use Rattle.instance.specs.Rows.{Entry}
 use Rattle.instance.specs.Layout.{ObjectiveOk, RowOk}

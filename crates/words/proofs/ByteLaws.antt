@@ -7,10 +7,10 @@ use native.Mathlib.Decide.{dec_lt}
 use native.Mathlib.Omega.{arith}
 use lib.ListN.{get_or}
 use lib.Dec.{T, eqb}
-use borrow.Author.Tests.{ne_eqb, eq-eqb, eqb-true, not-true}
+use borrow.Author.Tests.{ne_eqb, not-true}
 use Rattle.words.specs.declared.Place.{Place}
-use Rattle.words.specs.declared.Place.TheVariants.{Inside, Start, Comment}
-use Rattle.words.specs.Bytes.{is_blank, is_plain, begins, is_kept, place_after, next_place}
+use Rattle.words.specs.declared.Place.TheVariants.{Inside, Start}
+use Rattle.words.specs.Bytes.{is_blank, is_plain, begins, is_kept, place_after}
 
 -- false is not true
 pub clash : {A : Type 0} → false ≡ true → A

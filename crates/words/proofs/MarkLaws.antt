@@ -1,13 +1,13 @@
 -- Laws of the marks of a text: what skipping a byte, a word or a `;` leaves. Assumes nothing.
-use mathlib.Core.Path.{◌≡◌, refl, sym, ap, ◌∙◌, subst}
+use mathlib.Core.Path.{◌≡◌, refl, sym, ap, ◌∙◌}
 use mathlib.Core.Bool.{Bool, true, false, not, cond, ◌||◌}
 use mathlib.Core.List.{List, [], ◌∷◌, ◌++◌, append-nil}
-use Prim.Native.Nat.{ℕ, zero, suc, ◌+◌, ◌-◌, ◌≤◌, ◌<◌}
+use Prim.Native.Nat.{ℕ, suc, ◌+◌, ◌-◌, ◌≤◌, ◌<◌}
 use native.Mathlib.Decide.{dec_lt}
 use native.Mathlib.Omega.{arith}
 use native.Mathlib.Numerals.{add-one}
 use lib.Dec.{eqb}
-use lib.ListN.{length, get_or, take, drop, take-append-drop, drop_of_length-le, length-drop}
+use lib.ListN.{length, get_or, drop, take-append-drop, drop_of_length-le, length-drop}
 use lib.Seq.{drop-cons, drop-drop, get_or-take, get_or-drop, length-take-le}
 use borrow.Author.Tests.{ne_eqb, not-true}
 use Rattle.words.specs.declared.Place.{Place}

@@ -3,7 +3,7 @@ use mathlib.Core.Path.{◌≡◌, refl, sym, ap, ◌∙◌, subst}
 use mathlib.Core.Bool.{Bool, true, false, cond, ◌&&◌}
 use mathlib.Core.List.{List, [], ◌∷◌}
 use mathlib.Core.Option.{Option, none, some}
-use Prim.Native.Nat.{ℕ, zero, suc, ◌-◌, ◌^◌, ◌≤◌, ◌<◌}
+use Prim.Native.Nat.{ℕ, suc, ◌-◌, ◌^◌, ◌≤◌, ◌<◌}
 use native.Mathlib.Omega.{arith}
 use lib.Dec.{eqb}
 use lib.IntN.{ℤ}
@@ -15,7 +15,7 @@ use Rattle.decimal.specs.Decimal.{is_numeral, digits_value, read_numeral}
 use Rattle.decimal.proofs.NumeralLaws.{read-less}
 use Rattle.words.specs.declared.numbers.Number.{Number}
 use Rattle.words.specs.Numbers.{sign_of, digits, number, negated, literal, relation, is_min}
-use Rattle.words.specs.Answers.{Says, number_of}
+use Rattle.words.specs.Answers.{Says}
 
 -- what is left of a word after k bytes, as a part of a slice
 abbrev pub rest : ℕ → List ℕ → List ℕ

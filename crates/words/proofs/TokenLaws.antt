@@ -1,5 +1,5 @@
 -- What a token and a number that was read tell, by their kind. Assumes nothing.
-use mathlib.Core.Path.{◌≡◌, refl, sym, ap, ◌∙◌}
+use mathlib.Core.Path.{◌≡◌, refl, ap, ◌∙◌}
 use mathlib.Core.Bool.{Bool, true, false, cond}
 use mathlib.Core.List.{List, [], ◌∷◌}
 use mathlib.Core.Option.{Option, none, some}
@@ -13,9 +13,9 @@ use Rattle.words.specs.declared.Place.{Place}
 use Rattle.words.specs.declared.Place.TheVariants.{Inside}
 use Rattle.words.specs.declared.Token.{Token}
 use Rattle.words.specs.declared.numbers.Number.{Number}
-use Rattle.words.specs.Tokens.{Mark, word, stop, marks_at}
+use Rattle.words.specs.Tokens.{word, stop, marks_at}
 use Rattle.words.specs.Numbers.{sign_of}
-use Rattle.words.specs.Answers.{part, marks_from, NextToken, Says, number_of}
+use Rattle.words.specs.Answers.{part, NextToken, Says}
 
 -- ---- NextToken
 

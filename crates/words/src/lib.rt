@@ -9,7 +9,7 @@ ghost use Rattle.words.specs.Bytes.{is_blank, is_plain, place_after, next_place,
 ghost use Rattle.words.specs.Answers.{Skipped, WordEnd, NextToken};
 
 // Where a byte stands: at a line's beginning, further on, or in a comment.
-#[derive(Drop)]
+#[derive(Clone, Copy, Drop)]
 pub enum Place {
     Inside,
     Start,

@@ -7,7 +7,7 @@ ghost use Rattle.words.specs.Answers.{Says};
 use instance::Entry;
 
 // A word read as a number: whether it is one, its sign and its size.
-#[derive(Drop)]
+#[derive(Clone, Copy, Drop)]
 pub struct Number {
     pub ok: bool,
     pub negative: bool,

@@ -31,7 +31,7 @@ rest_all xs at text h = record { fits = h; size = refl; ends = refl; same = refl
 
 module _ {xs : List ℕ} {at : ℕ} {text out : List ℕ} {place : ℕ} where
   -- the rest by another name
-  pub rest_as : {rest rest' : List ℕ} → rest ≡ rest' → Rest xs at text out place rest → Rest xs at text out place rest'
+  pub rest-as : {rest rest' : List ℕ} → rest ≡ rest' → Rest xs at text out place rest → Rest xs at text out place rest'
   rest-as e r = subst (Rest xs at text out place) e r
 
   -- at the end all is written

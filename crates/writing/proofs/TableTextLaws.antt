@@ -6,10 +6,8 @@ use native.Mathlib.Omega.{arith}
 use lib.IntN.{ℤ}
 use lib.ListN.{length}
 use Rattle.instance.specs.Lists.{tabulate}
-use Rattle.instance.specs.Terms.{Term}
-use Rattle.instance.specs.Rows.{Entry}
 use Rattle.instance.specs.Tables.{IsInstance, entries_in}
-use Rattle.instance.specs.Meaning.{entry_at, meaning, terms_at}
+use Rattle.instance.specs.Meaning.{entry_at, meaning}
 use Rattle.instance.specs.Structs.{EntryIs}
 use Rattle.instance.specs.declared.entries.Entry.{Entry as EntryNumbers}
 use Rattle.instance.proofs.InstanceLaws.{entry-inside}

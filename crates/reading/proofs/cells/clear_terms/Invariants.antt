@@ -1,0 +1,14 @@
+-- Invariant: the first i numbers are zero, the rest as found. Measure: what is left of the room.
+use mathlib.Core.Path.{◌≡◌}
+use mathlib.Core.List.{◌++◌}
+use Prim.Native.Nat.{◌-◌, ◌≤◌}
+use lib.IntN.{pos}
+use lib.ListN.{length, drop, replicate}
+use Rattle.instance.specs.Limits.{term_room}
+use Rattle.reading.proofs.cells.clear_terms.Given as goal
+
+abbrev pub invariant-loop-i : goal.invariant-loop-i
+invariant-loop-i l = (l.i ≤ term_room) × (length l.terms ≡ length l.initial.terms) × (l.terms ≡ replicate l.i (pos 0) ++ drop l.i l.initial.terms)
+
+abbrev pub decreases-loop-i : goal.decreases-loop-i
+decreases-loop-i l = term_room - l.i

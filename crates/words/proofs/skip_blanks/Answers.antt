@@ -1,0 +1,21 @@
+use mathlib.Core.Path.{refl, sym, ap, ◌∙◌}
+use Prim.Native.Nat.{◌+◌}
+use native.Mathlib.Omega.{arith}
+use lib.ListN.{get_or, drop}
+use Rattle.words.specs.declared.Place.{Place}
+use Rattle.words.specs.Tokens.{marks_at}
+use Rattle.words.proofs.ByteLaws.{begins-true}
+use Rattle.words.proofs.MarkLaws.{skip_step, skip_stop, skip-end}
+use Rattle.words.proofs.skip_blanks.Goals as goal
+
+pub loop-i-init : goal.loop-i-init
+loop-i-init c = (omega arith, omega arith, refl)
+
+pub returns-then-begins_token : goal.returns-then-begins_token
+returns-then-begins_token c = record { low = c.loop-i.invariant.0; high = c.loop-i.invariant.1; same = c.loop-i.invariant.2 ∙ skip_stop c.args.text.now c.loop-i.p c.loop-i.i c.loop-i-test.true (sym c.begins_token.ensures ∙ c.if-begins_token.true); found = λ _. (begins-true c.loop-i.p (get_or c.args.text.now c.loop-i.i 0) (sym c.begins_token.ensures ∙ c.if-begins_token.true)).1 }
+
+pub loop-i-preserved : goal.loop-i-preserved
+loop-i-preserved c = (omega arith, omega arith, c.loop-i.invariant.2 ∙ skip_step c.args.text.now c.loop-i.p c.loop-i.i c.loop-i-test.true (sym c.begins_token.ensures ∙ c.if-begins_token.false) ∙ ap (λ (p : Place). marks_at p (drop (c.loop-i.i + 1) c.args.text.now)) (sym c.next_place-p.ensures))
+
+pub returns : goal.returns
+returns c = record { low = c.loop-i.invariant.0; high = c.loop-i.invariant.1; same = c.loop-i.invariant.2 ∙ skip-end c.args.text.now c.loop-i.p c.loop-i.i c.loop-i-test.false; found = λ h. absurd (omega arith) }
