@@ -6,7 +6,7 @@ ghost use Rattle.seeking.specs.Stocks.{row, Within, Limited, Placed, Either, Lea
 use crate::vectors::{earlier, earlier_at, load, store, within};
 
 // How many points are gathered, and whether there is a limit.
-#[derive(Drop)]
+#[derive(Clone, Copy, Drop)]
 pub struct Stock {
     pub count: usize,
     pub cut: bool,
