@@ -14,7 +14,7 @@ use Rattle.judge.proofs.UnmetLaws.{feasible-unmet, unmet-feasible}
 use Rattle.points.specs.Fronts.{Candidate, StrictOrder, IsFront}
 use Rattle.points.specs.Computed.{Candidates}
 use Rattle.points.proofs.FrontLaws.{front-unique}
-use Rattle.points.proofs.ComputedLaws.{front_below}
+use Rattle.points.proofs.ComputedLaws.{front-below}
 use Rattle.front.specs.Listing.{CandidateOf, Smaller, FrontOf}
 use Rattle.front.specs.Computed.{front_of}
 
@@ -41,8 +41,8 @@ front-as f g h = record { members = λ x m. f x (h.members x m); rising = h.risi
 
 -- ---- FrontOf
 module _ (i : Instance) where
-  pub front_of : FrontOf i (front_of i)
-  front_of = front-as there back (front_below smaller-order ltb smaller-decides (λ a. eqb (first_unmet i.rows a) 0) (λ a. padded (vector i a)) 4 (λ a. refl) (2 ^ i.variables))
+  pub front-of : FrontOf i (front_of i)
+  front-of = front-as there back (front-below smaller-order ltb smaller-decides (λ a. eqb (first_unmet i.rows a) 0) (λ a. padded (vector i a)) 4 (λ a. refl) (2 ^ i.variables))
     where
       there : (c : Candidate) → Candidates (λ a. eqb (first_unmet i.rows a) 0) (λ a. padded (vector i a)) (2 ^ i.variables) c → CandidateOf i c
       there c p = record { feasible = unmet-feasible i c.model p.fits (eqb-true (first_unmet i.rows c.model) 0 p.feasible_is); has_vector = p.value_is }

@@ -22,7 +22,7 @@ use Rattle.points.specs.Fronts.{Candidate}
 use Rattle.points.proofs.BeginLaws.{begins-more, begins-all, begins-front, begins-short}
 use Rattle.front.specs.Listing.{CandidateOf, values_of, models_of, values_left, models_left, set_four, CostsPut, Lists}
 use Rattle.front.specs.Computed.{front_of}
-use Rattle.front.proofs.FrontLaws.{smaller-order, front_of}
+use Rattle.front.proofs.FrontLaws.{smaller-order, front-of}
 use Rattle.front.proofs.PutLaws.{four-behind}
 use Rattle.front.proofs.ListingLaws.{candidate, Listing, comes-next, none-fresh}
 
@@ -141,15 +141,15 @@ module _ {ts rs : List ℤ} {n k : ℕ} {start tv off w need d dear : List ℕ} 
   pub lists-part : (r : ℕ) {a : ℕ} {top : List ℕ} → Next n start tv off w need d dear k listed m true a top → m ≡ r → Lists ts rs r vs ms vs' ms' false m
   lists-part r {a} x h = record {
     front = front_of I;
-    is_front = front_of I;
+    is_front = front-of I;
     whole = λ e. on e;
-    part = λ e. (h, omega (arith, begins-short smaller-order l.begins (front_of I) (candidate I a) (comes-next nm l x).member (comes-next nm l x).fresh, l.count));
+    part = λ e. (h, omega (arith, begins-short smaller-order l.begins (front-of I) (candidate I a) (comes-next nm l x).member (comes-next nm l x).fresh, l.count));
     values = l.values ∙ ap (λ (xs : List Candidate). values_left xs vs) (sym first);
     models = l.models ∙ ap (λ (xs : List Candidate). models_left xs ms) (sym first);
   }
     where
       first : take m (front_of I) ≡ l.xs
-      first = ap (λ (q : ℕ). take q (front_of I)) (sym l.count) ∙ begins-front smaller-order l.begins (front_of I)
+      first = ap (λ (q : ℕ). take q (front_of I)) (sym l.count) ∙ begins-front smaller-order l.begins (front-of I)
 
 -- ---- what the search answered, by its test
 
