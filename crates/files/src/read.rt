@@ -14,7 +14,7 @@ use blocks::{Block, get16, get32};
 use points::{Point, is_proper};
 
 // The three numbers of a head.
-#[derive(Drop)]
+#[derive(Clone, Copy, Drop)]
 pub struct FileHead {
     pub objectives: u64,
     pub n: u64,
@@ -22,7 +22,7 @@ pub struct FileHead {
 }
 
 // The answer of reading a file.
-#[derive(Drop)]
+#[derive(Clone, Copy, Drop)]
 pub enum FileRead {
     Done(FileHead), // done: objectives, n, points
     BadLength, // 15: file length 0, not a multiple of 512, or above 44,544

@@ -10,7 +10,7 @@ use crate::sums::sum_of;
 use instance::{Checked, Entry, Instance};
 
 // The vector, unused values 0, and the first unmet row, counted from 1, or 0 if all rows hold.
-#[derive(Drop)]
+#[derive(Clone, Copy, Drop)]
 pub struct Judgement {
     pub first: i64,
     pub second: i64,
