@@ -5,7 +5,7 @@
 -- front that was computed by trying every assignment is the front, and there is one, so the list that listing's contract speaks of is the one
 -- of the table. The file of T's front is determined, and its bytes are those of case P11 of front files.
 use mathlib.Core.Path.{◌≡◌, refl, sym, ap, ◌∙◌, subst}
-use mathlib.Core.Logic.{◌⊎◌, ⊎_elim}
+use mathlib.Core.Logic.{⊎_elim}
 use mathlib.Core.Bool.{true, false, not, ◌&&◌}
 use mathlib.Core.List.Memᴰ
 use mathlib.Core.List.{List, [], ◌∷◌, Memᴰ}
@@ -29,7 +29,7 @@ use Rattle.files.specs.Written.{WrittenAs}
 use Rattle.front.specs.Listing.{FrontOf, room}
 use Rattle.front.specs.Computed.{front_of}
 use Rattle.front.specs.Answers.{Answer}
-use Rattle.front.proofs.FrontLaws.{front_of}
+use Rattle.front.proofs.FrontLaws.{front-of}
 use Rattle.front.proofs.ProperLaws.{runs-proper}
 use Rattle.cases.specs.Rules.{Expected, refuses, lists, cuts, files, Reads, Listings, Files, HoldsAs}
 use Rattle.cases.specs.Cases.{Case, Holds, table, points_t}
@@ -62,7 +62,7 @@ module _ (text : List ℕ) (short : is_long text ≡ false) where
       means = done-meaning text ts rs (room-enough ts rs h k) short e
 
       front : FrontOf (meaning ts' rs') (front_of i)
-      front = subst (λ (j : Instance). FrontOf j (front_of i)) (sym means) (front_of i)
+      front = subst (λ (j : Instance). FrontOf j (front_of i)) (sym means) (front-of i)
 
       objectives-are : objectives_in rs' ≡ length os
       objectives-are = sym (tabulate-length (entry_at ts' rs') 0 (objectives_in rs')) ∙ ap (λ (j : Instance). length j.objectives) means

@@ -11,24 +11,24 @@ use lines::{Line, put_front, put_point, put_refused};
 use points::Point;
 use reading::{TextRead, read_text};
 use std::io;
-use std::io::Read;
+use std::io::{Read, Stdout};
 
 // Prints the line of a refusal.
-fn print_refused<P: Print>(out: &P, number: u64, statement: u64) {
+fn print_refused(out: &Stdout, number: u64, statement: u64) {
     let mut line = [0u8; Line::LEN];
     let len = put_refused(&mut line, number, statement);
     let _ = out.write_all(&line[..len]);
 }
 
 // Prints the first line, and answers whether it was taken.
-fn print_front<P: Print>(out: &P, points: u64, objectives: u64, n: u64, cut: bool) -> bool {
+fn print_front(out: &Stdout, points: u64, objectives: u64, n: u64, cut: bool) -> bool {
     let mut line = [0u8; Line::LEN];
     let len = put_front(&mut line, points, objectives, n, cut);
     out.write_all(&line[..len]).is_ok()
 }
 
 // Prints the line of the point at place k of the runs, and answers whether it was taken.
-fn print_point<P: Print>(out: &P, values: &[i64], k: usize, objectives: usize, model: u64) -> bool
+fn print_point(out: &Stdout, values: &[i64], k: usize, objectives: usize, model: u64) -> bool
     requires { (objectives ≤ 4) × (k * 4 + 4 ≤ length values.now) × (k ≤ 1024) }
 {
     let mut line = [0u8; Line::LEN];
@@ -44,7 +44,7 @@ fn print_point<P: Print>(out: &P, values: &[i64], k: usize, objectives: usize, m
 }
 
 // Prints the lines of the points, until one is not taken.
-fn print_points<P: Print>(out: &P, values: &[i64], models: &[u64], objectives: usize, points: usize)
+fn print_points(out: &Stdout, values: &[i64], models: &[u64], objectives: usize, points: usize)
     requires { (objectives ≤ 4) × (points ≤ 1024) × (points * 4 ≤ length values.now) × (points ≤ length models.now) }
 {
     let mut k: usize = 0;
@@ -57,8 +57,8 @@ fn print_points<P: Print>(out: &P, values: &[i64], models: &[u64], objectives: u
 }
 
 // Prints a listing of so many points, 1,024 at most.
-fn print_listing<P: Print>(
-    out: &P,
+fn print_listing(
+    out: &Stdout,
     values: &[i64],
     models: &[u64],
     objectives: usize,
@@ -77,7 +77,7 @@ fn print_listing<P: Print>(
 }
 
 // Lists the front of the instance that the tables hold, and prints it.
-fn print_instance<P: Print>(out: &P, terms: &[i32], rows: &[i64]) {
+fn print_instance(out: &Stdout, terms: &[i32], rows: &[i64]) {
     let Checked::Sizes(sizes) = Instance::of(terms, rows) else {
         print_refused(out, 10, 0);
         return;
@@ -114,7 +114,7 @@ fn print_instance<P: Print>(out: &P, terms: &[i32], rows: &[i64]) {
 }
 
 // Reads a text into tables and prints the listing of its front, or the refusal.
-fn print_text<P: Print>(out: &P, text: &[u8]) {
+fn print_text(out: &Stdout, text: &[u8]) {
     let mut terms = [0i32; Instance::TERM_ROOM];
     let mut rows = [0i64; Instance::ROW_ROOM];
     let r = read_text(text, &mut terms, &mut rows);
@@ -152,7 +152,7 @@ fn main(rt: HostRuntime) {
     let mut text = [0u8; 65_536];
     let mut input = rt.stdin();
     match read_full(&mut input, &mut text) {
-        Ok(len) => print_text(&rt, &text[..len]),
+        Ok(len) => print_text(&rt.stdout(), &text[..len]),
         Err(error) => {
             let _ = eprintln!(rt; "standard input: {error}");
         }

@@ -1,0 +1,12 @@
+-- The line fits its 256 bytes.
+use mathlib.Core.Path.{sym}
+use native.Mathlib.Omega.{arith}
+use lib.Seq.{length-take-le}
+use Rattle.lines.proofs.LineLaws.{refused-most}
+use Rattle.listing.proofs.print_refused.Goals as goal
+
+pub slice_bounds-line-end : goal.slice_bounds-line-end
+slice_bounds-line-end c = omega (arith, c.put_refused-len.ensures.next, c.put_refused-len.auto, refused-most c.args.number c.args.statement)
+
+pub slice_bounds-write_all-end : goal.slice_bounds-write_all-end
+slice_bounds-write_all-end c = sym (length-take-le _ _ (omega (arith, c.put_refused-len.ensures.next, c.put_refused-len.auto, refused-most c.args.number c.args.statement)))
