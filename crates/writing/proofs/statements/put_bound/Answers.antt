@@ -1,36 +1,35 @@
 -- `writing::statements::put_bound` meets its contract: nothing for an objective; else relation, space, bound and space are put one after the other. Assumes nothing.
-use mathlib.Core.Path.{◌≡◌, sym, ap, ◌∙◌}
-use mathlib.Core.List.{[], ◌∷◌, ◌++◌}
+use mathlib.Core.Path.{◌≡◌, sym, ap, subst}
+use mathlib.Core.List.{List, [], ◌∷◌, ◌++◌}
+use Prim.Native.Nat.{ℕ, ◌+◌, ◌≤◌}
 use lib.IntN.{ℤ}
+use lib.ListN.{length}
 use mir.Facts.{to_z-of_z}
 use mir.Syntax.{w64}
-use mir.Val.{to_z, of_z}
 use Rattle.decimal.specs.Decimal.{integer}
 use Rattle.writing.specs.Writing.{relation_text, bound_text}
-use Rattle.writing.proofs.RestLaws.{Rest, put-none, rest_all, rest-as, rest-room, rest_put, rest-room-all, rest-put-all}
+use Rattle.writing.proofs.RestLaws.{Put, put_as, put-none, Rest, rest_all, rest-as, rest-room, rest_put, rest-room-all, rest-put-all}
 use Rattle.writing.proofs.TextLaws.{bound-objective, bound-row}
-use Rattle.writing.proofs.statements.put_bound.Goals.{After-put_byte-gap, After-put_integer-digits, After-put_relation-relation, Else-kind-eq-OBJECTIVE, Start}
 use Rattle.writing.proofs.statements.put_bound.Goals as goal
 
-all : (c : Else-kind-eq-OBJECTIVE) → Rest c.args.out.now c.args.at (bound_text c.args.kind c.args.bound) c.args.out.now c.args.at (relation_text c.args.kind ++ (32 ∷ ((integer (to_z w64 (of_z w64 c.args.bound))) ++ (32 ∷ []))))
-all c =
-    let row : bound_text c.args.kind c.args.bound ≡ relation_text c.args.kind ++ (32 ∷ (integer c.args.bound ++ (32 ∷ []))) =
-    sym (bound-row c.args.bound c.if-kind-eq-OBJECTIVE.false) in
-    let coded : c.args.bound ≡ to_z w64 (of_z w64 c.args.bound) = sym (to_z-of_z c.ranges.bound) in
-    rest-as (row ∙ ap (λ (z : ℤ). relation_text c.args.kind ++ (32 ∷ (integer z ++ (32 ∷ [])))) coded)
-    (rest_all c.args.out.now c.args.at (bound_text c.args.kind c.args.bound) c.requires)
+-- what is left of a row's bound at the beginning and after each put; z is the bound as it is put
+module _ (xs : List ℕ) (at kind : ℕ) (bound : ℤ) (h : at + length (bound_text kind bound) ≤ length xs) (n : kind ≡ 1 → ⊥) where
+  all : Rest xs at (bound_text kind bound) xs at (relation_text kind ++ (32 ∷ (integer bound ++ (32 ∷ []))))
+  all = rest-as (sym (bound-row bound n)) (rest_all xs at (bound_text kind bound) h)
 
-after-relation : (c : After-put_relation-relation) → Rest c.args.out.now c.args.at (bound_text c.args.kind c.args.bound) c.put_relation-relation.new.out c.put_relation-relation.result (32 ∷ ((integer (to_z w64 (of_z w64 c.args.bound))) ++ (32 ∷ [])))
-after-relation c =
-    rest_put (relation_text c.args.kind) (32 ∷ ((integer (to_z w64 (of_z w64 c.args.bound))) ++ (32 ∷ []))) (let row : bound_text c.args.kind c.args.bound ≡ relation_text c.args.kind ++ (32 ∷ (integer c.args.bound ++ (32 ∷ []))) = sym (bound-row c.args.bound c.if-kind-eq-OBJECTIVE.false) in let coded : c.args.bound ≡ to_z w64 (of_z w64 c.args.bound) = sym (to_z-of_z c.ranges.bound) in rest-as (row ∙ ap (λ (z : ℤ). relation_text c.args.kind ++ (32 ∷ (integer z ++ (32 ∷ [])))) coded) (rest_all c.args.out.now c.args.at (bound_text c.args.kind c.args.bound) c.requires)) (c.put_relation-relation.ensures.left, c.put_relation-relation.ensures.next)
+  module _ {a : List ℕ} {i : ℕ} (p : Put xs at (relation_text kind) a i) where
+    after-relation : Rest xs at (bound_text kind bound) a i (32 ∷ (integer bound ++ (32 ∷ [])))
+    after-relation = rest_put (relation_text kind) (32 ∷ (integer bound ++ (32 ∷ []))) all p
 
-after-space : (c : After-put_byte-gap) → Rest c.args.out.now c.args.at (bound_text c.args.kind c.args.bound) c.put_byte-gap.new.out c.put_byte-gap.result ((integer (to_z w64 (of_z w64 c.args.bound))) ++ (32 ∷ []))
-after-space c =
-    rest_put (32 ∷ []) ((integer (to_z w64 (of_z w64 c.args.bound))) ++ (32 ∷ [])) (rest_put (relation_text c.args.kind) (32 ∷ ((integer (to_z w64 (of_z w64 c.args.bound))) ++ (32 ∷ []))) (let row : bound_text c.args.kind c.args.bound ≡ relation_text c.args.kind ++ (32 ∷ (integer c.args.bound ++ (32 ∷ []))) = sym (bound-row c.args.bound c.if-kind-eq-OBJECTIVE.false) in let coded : c.args.bound ≡ to_z w64 (of_z w64 c.args.bound) = sym (to_z-of_z c.ranges.bound) in rest-as (row ∙ ap (λ (z : ℤ). relation_text c.args.kind ++ (32 ∷ (integer z ++ (32 ∷ [])))) coded) (rest_all c.args.out.now c.args.at (bound_text c.args.kind c.args.bound) c.requires)) (c.put_relation-relation.ensures.left, c.put_relation-relation.ensures.next)) (c.put_byte-gap.ensures.left, c.put_byte-gap.ensures.next)
+    module _ {b : List ℕ} {j : ℕ} (q : Put a i (32 ∷ []) b j) {z : ℤ} (e : z ≡ bound) where
+      after-space : Rest xs at (bound_text kind bound) b j (integer bound ++ (32 ∷ []))
+      after-space = rest_put (32 ∷ []) (integer bound ++ (32 ∷ [])) after-relation q
 
-after-digits : (c : After-put_integer-digits) → Rest c.args.out.now c.args.at (bound_text c.args.kind c.args.bound) c.put_integer-digits.new.out c.put_integer-digits.result (32 ∷ [])
-after-digits c =
-    rest_put (integer (to_z w64 (of_z w64 c.args.bound))) (32 ∷ []) (rest_put (32 ∷ []) ((integer (to_z w64 (of_z w64 c.args.bound))) ++ (32 ∷ [])) (rest_put (relation_text c.args.kind) (32 ∷ ((integer (to_z w64 (of_z w64 c.args.bound))) ++ (32 ∷ []))) (let row : bound_text c.args.kind c.args.bound ≡ relation_text c.args.kind ++ (32 ∷ (integer c.args.bound ++ (32 ∷ []))) = sym (bound-row c.args.bound c.if-kind-eq-OBJECTIVE.false) in let coded : c.args.bound ≡ to_z w64 (of_z w64 c.args.bound) = sym (to_z-of_z c.ranges.bound) in rest-as (row ∙ ap (λ (z : ℤ). relation_text c.args.kind ++ (32 ∷ (integer z ++ (32 ∷ [])))) coded) (rest_all c.args.out.now c.args.at (bound_text c.args.kind c.args.bound) c.requires)) (c.put_relation-relation.ensures.left, c.put_relation-relation.ensures.next)) (c.put_byte-gap.ensures.left, c.put_byte-gap.ensures.next)) (c.put_integer-digits.ensures.left, c.put_integer-digits.ensures.next)
+      digits-room : j + length (integer z) ≤ length b
+      digits-room = subst (λ (u : ℤ). j + length (integer u) ≤ length b) (sym e) (rest-room (integer bound) (32 ∷ []) after-space)
+
+      after-digits : {d : List ℕ} {k : ℕ} → Put b j (integer z) d k → Rest xs at (bound_text kind bound) d k (32 ∷ [])
+      after-digits r = rest_put (integer bound) (32 ∷ []) after-space (put_as b j (ap integer e) r)
 
 pub returns-then-kind-eq-OBJECTIVE : goal.returns-then-kind-eq-OBJECTIVE
 returns-then-kind-eq-OBJECTIVE c =
@@ -38,19 +37,30 @@ returns-then-kind-eq-OBJECTIVE c =
 
 pub put_relation-relation-requires : goal.put_relation-relation-requires
 put_relation-relation-requires c =
-    rest-room (relation_text c.args.kind) (32 ∷ (integer (to_z w64 (of_z w64 c.args.bound)) ++ (32 ∷ []))) (all (goal.at.put_relation-relation-requires c).Else-kind-eq-OBJECTIVE)
+    rest-room (relation_text c.args.kind) (32 ∷ (integer c.args.bound ++ (32 ∷ []))) (all c.args.out.now c.args.at c.args.kind c.args.bound c.requires c.if-kind-eq-OBJECTIVE.false)
 
 pub put_byte-gap-requires : goal.put_byte-gap-requires
 put_byte-gap-requires c =
-    rest-room (32 ∷ []) (integer (to_z w64 (of_z w64 c.args.bound)) ++ (32 ∷ [])) (after-relation (goal.at.put_byte-gap-requires c).After-put_relation-relation)
+    rest-room (32 ∷ []) (integer c.args.bound ++ (32 ∷ []))
+    (after-relation c.args.out.now c.args.at c.args.kind c.args.bound c.requires c.if-kind-eq-OBJECTIVE.false (c.put_relation-relation.ensures.left, c.put_relation-relation.ensures.next))
 
 pub put_integer-digits-requires : goal.put_integer-digits-requires
 put_integer-digits-requires c =
-    rest-room (integer (to_z w64 (of_z w64 c.args.bound))) (32 ∷ []) (after-space (goal.at.put_integer-digits-requires c).After-put_byte-gap)
+    digits-room c.args.out.now c.args.at c.args.kind c.args.bound c.requires c.if-kind-eq-OBJECTIVE.false
+    (c.put_relation-relation.ensures.left, c.put_relation-relation.ensures.next) (c.put_byte-gap.ensures.left, c.put_byte-gap.ensures.next)
+    (to_z-of_z {w = w64} c.ranges.bound)
 
 pub put_byte-requires : goal.put_byte-requires
-put_byte-requires c = rest-room-all (after-digits (goal.at.put_byte-requires c).After-put_integer-digits)
+put_byte-requires c =
+    rest-room-all
+    (after-digits c.args.out.now c.args.at c.args.kind c.args.bound c.requires c.if-kind-eq-OBJECTIVE.false
+    (c.put_relation-relation.ensures.left, c.put_relation-relation.ensures.next) (c.put_byte-gap.ensures.left, c.put_byte-gap.ensures.next)
+    (to_z-of_z {w = w64} c.ranges.bound) (c.put_integer-digits.ensures.left, c.put_integer-digits.ensures.next))
 
 pub returns : goal.returns
 returns c =
-    let p = rest-put-all (after-digits (goal.at.returns c).After-put_integer-digits) (c.put_byte.ensures.left, c.put_byte.ensures.next) in record { left = p.0; next = p.1 }
+    let r =
+    after-digits c.args.out.now c.args.at c.args.kind c.args.bound c.requires c.if-kind-eq-OBJECTIVE.false
+    (c.put_relation-relation.ensures.left, c.put_relation-relation.ensures.next) (c.put_byte-gap.ensures.left, c.put_byte-gap.ensures.next)
+    (to_z-of_z {w = w64} c.ranges.bound) (c.put_integer-digits.ensures.left, c.put_integer-digits.ensures.next) in
+    let p = rest-put-all r (c.put_byte.ensures.left, c.put_byte.ensures.next) in record { left = p.0; next = p.1 }

@@ -23,7 +23,7 @@ terms-is c =
 
 bound-is : (c : After-bound_len) → c.bound_len.result ≡ length (bound_text c.args.e.kind c.args.e.bound)
 bound-is c =
-    let plain : to_z w64 (of_z w64 c.args.e.bound) ≡ c.args.e.bound = to_z-of_z {w = w64} (record { sfits = c.struct_told-1.given.1.1.1.0.1 }) in
+    let plain : to_z w64 (of_z w64 c.args.e.bound) ≡ c.args.e.bound = to_z-of_z {w = w64} (record { sfits = omega arith }) in
     c.bound_len.ensures ∙ ap (λ (z : ℤ). length (bound_text c.args.e.kind z)) plain
 
 pub terms_len-requires : goal.terms_len-requires

@@ -20,19 +20,19 @@ use Rattle.writing.proofs.terms.term_len.Goals as goal
 coef-len : (c : After-signed_len) → c.signed_len.result ≡ length (signed c.args.t.coef)
 coef-len c =
     let e : to_z w64 (of_z w64 c.wide.result) ≡ c.args.t.coef =
-    result_as w64 (c.wide.ensures ∙ to_z-of_z {w = w32} (record { sfits = c.struct_told-1.given.0.1 })) c.wide.type_inv in
+    result_as w64 (c.wide.ensures ∙ to_z-of_z {w = w32} (record { sfits = omega arith })) c.wide.type_inv in
     c.signed_len.ensures ∙ ap (λ (z : ℤ). length (signed z)) e
 
 lit-len : (c : After-literal_len) → c.literal_len.result ≡ length (literal_text c.args.t.lit)
 lit-len c =
     let e : to_z w64 (of_z w64 c.wide-2.result) ≡ c.args.t.lit =
-    result_as w64 (c.wide-2.ensures ∙ to_z-of_z {w = w32} (record { sfits = c.struct_told-2-1.given.1.0.1 })) c.wide-2.type_inv in
+    result_as w64 (c.wide-2.ensures ∙ to_z-of_z {w = w32} (record { sfits = omega arith })) c.wide-2.type_inv in
     c.literal_len.ensures ∙ ap (λ (z : ℤ). length (literal_text z)) e
 
 -- so they are small
 small : (c : After-literal_len) → (c.signed_len.result ≤ 21) × (c.literal_len.result ≤ 22)
 small c = (
-  omega (arith, (let e : to_z w64 (of_z w64 c.wide.result) ≡ c.args.t.coef = result_as w64 (c.wide.ensures ∙ to_z-of_z {w = w32} (record { sfits = c.struct_told-1.given.0.1 })) c.wide.type_inv in c.signed_len.ensures ∙ ap (λ (z : ℤ). length (signed z)) e), signed-most c.args.t.coef),
+  omega (arith, (let e : to_z w64 (of_z w64 c.wide.result) ≡ c.args.t.coef = result_as w64 (c.wide.ensures ∙ to_z-of_z {w = w32} (record { sfits = omega arith })) c.wide.type_inv in c.signed_len.ensures ∙ ap (λ (z : ℤ). length (signed z)) e), signed-most c.args.t.coef),
   omega (arith, lit-len c, literal-length c.args.t.lit, integer-most c.args.t.lit),
 )
 
