@@ -35,9 +35,9 @@ pub record Place (xs : List Candidate) (x : Candidate) : Type 0 where
   pub inside : place < length xs
   pub model_is : get_or (models_of xs) place 0 ≡ x.model
 
-place_of : (xs : List Candidate) (x : Candidate) → Memᴰ x xs → Place xs x
-place_of [] x m = absurd (Memᴰ.not-nil m)
-place_of (y ∷ ys) x m = by (place_of ys x) (Memᴰ.cases_cons m)
+place-of : (xs : List Candidate) (x : Candidate) → Memᴰ x xs → Place xs x
+place-of [] x m = absurd (Memᴰ.not-nil m)
+place-of (y ∷ ys) x m = by (place-of ys x) (Memᴰ.cases_cons m)
   where
     by : (Memᴰ x ys → Place ys x) → (x ≡ y) ⊎ Memᴰ x ys → Place (y ∷ ys) x
     by f (inl e) = record { place = 0; inside = omega arith; model_is = ap (λ (c : Candidate). c.model) (sym e) }
@@ -88,7 +88,7 @@ module _ {ts rs : List ℤ} {n k : ℕ} {start tv off w need d dear : List ℕ} 
 
   fresh_up : (a : ℕ) → Unbeaten k listed m (vec n d dear (bit a)) → Fresh l.xs (candidate I a)
   fresh_up a f x u le =
-      let p = place_of l.xs x u in
+      let p = place-of l.xs x u in
       f p.place (omega (arith, p.inside, l.count))
       (λ i j. omega
       (arith, le-costs nm x.model a (subst (λ (v : List ℤ). LeAll v (padded (vector I a))) (listed-is x u) le) i j, l.costs_are p.place i (omega (arith, p.inside, l.count)) j, ap (λ (b : ℕ). vec n d dear (bit b) i) p.model_is))

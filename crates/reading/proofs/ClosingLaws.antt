@@ -130,8 +130,8 @@ module _ {text : List ℕ} {first base : ℕ} {before after : List ℤ} {r : Run
       marks-here : marks_at Inside (drop run.at text) ≡ word (part text r.stop.start r.stop.end) ∷ marks_at Inside (drop r.stop.end text)
       marks-here = token-word stops k
 
-      pub relation_some : relation (part text r.stop.start r.stop.end) ≡ 0 → ⊥
-      relation_some = run.stops.relation_some k
+      pub relation-some : relation (part text r.stop.start r.stop.end) ≡ 0 → ⊥
+      relation-some = run.stops.relation_some k
 
       pub row-unbound : {b : Bound} → BoundIs text r.stop.end b → b.ok ≡ false → (s : Statement) → s.kind ≡ 5 → Closing row text (marks_at Inside (drop first text)) base before after s
       unfolding first_words is_closed
@@ -140,7 +140,7 @@ module _ {text : List ℕ} {first base : ℕ} {before after : List ℤ} {r : Run
         kind_some = λ y. omega arith;
         broken = λ _ c. run.reached.row_as
             ∙ ap (add_terms run.terms) (ap (λ (m : List Mark). row (first_words m)) marks-here
-            ∙ q.no_bound z (sym (run.reached.closed_as ∙ ap is_closed marks-here) ∙ c) (part text r.stop.start r.stop.end) relation_some)
+            ∙ q.no_bound z (sym (run.reached.closed_as ∙ ap is_closed marks-here) ∙ c) (part text r.stop.start r.stop.end) relation-some)
             ∙ adds_none run.terms;
         entry_read = λ m. absurd (m j);
       }
@@ -151,13 +151,13 @@ module _ {text : List ℕ} {first base : ℕ} {before after : List ℤ} {r : Run
       unfolding first_words is_closed rest_after
       row_done {b} q {kind} {bound} {wide} f g h = record {
         kept = e.kept;
-        kind_some = λ z. relation_some (sym f ∙ z);
+        kind_some = λ z. relation-some (sym f ∙ z);
         broken = λ z. absurd (omega (arith, relation-le (part text r.stop.start r.stop.end)));
         entry_read = λ _. record {
           entry = record { kind = relation (part text r.stop.start r.stop.end); terms = run.terms; bound = value b.value };
           parsed = run.reached.row_as
               ∙ ap (add_terms run.terms) (ap (λ (m : List Mark). row (first_words m)) all
-              ∙ row-bound (part text r.stop.start r.stop.end) q.bound_word [] relation_some
+              ∙ row-bound (part text r.stop.start r.stop.end) q.bound_word [] relation-some
               ∙ ap (λ (z : Option ℤ). row_end (relation (part text r.stop.start r.stop.end)) z []) q.says)
               ∙ adds-last run.terms (relation (part text r.stop.start r.stop.end)) (value b.value);
           closed = run.reached.closed_as ∙ ap is_closed all;

@@ -63,11 +63,11 @@ module _ {text : List ℕ} {found rows now rows' : List ℤ} {at number objectiv
   next-inside : at + s.next ≤ length text
   next-inside = omega (arith, e.high, length-drop at text, t.inside)
 
-  next_place : place_at (at + s.next) ≡ Inside
-  next_place = ap (λ (b : Bool). cond b Start Inside) (ne_eqb (at + s.next) 0 (λ z. omega (arith, e.low)))
+  next-place : place_at (at + s.next) ≡ Inside
+  next-place = ap (λ (b : Bool). cond b Start Inside) (ne_eqb (at + s.next) 0 (λ z. omega (arith, e.low)))
 
-  next_marks : rest_after (marks_at (place_at at) (drop at text)) ≡ marks_at (place_at (at + s.next)) (drop (at + s.next) text)
-  next_marks = e.rest ∙ ap (marks_at Inside) (drop-drop s.next at text) ∙ ap (λ (p : Place). marks_at p (drop (at + s.next) text)) (sym next_place)
+  next-marks : rest_after (marks_at (place_at at) (drop at text)) ≡ marks_at (place_at (at + s.next)) (drop (at + s.next) text)
+  next-marks = e.rest ∙ ap (marks_at Inside) (drop-drop s.next at text) ∙ ap (λ (p : Place). marks_at p (drop (at + s.next) text)) (sym next-place)
 
   pub entries-room : objectives + others < max_entries
   unfolding os' rs' before
@@ -105,7 +105,7 @@ module _ {text : List ℕ} {found rows now rows' : List ℤ} {at number objectiv
         ∙ terms-next before e.entry found fine.wide fine.unnamed fine.terms ∙ ap (λ (l : List Entry). term_table l found) (sym then);
     rows_left = r ∙ row-numbers ∙ rows_next before e.entry rows few room ∙ ap (λ (l : List Entry). row_table l rows) (sym then);
     says = goes t e ∙ ap (λ (k : ℕ). go_on k number (read_marks (suc number) os' rs' (rest_after (marks_at (place_at at) (drop at text))))) v
-        ∙ ap₂ (λ (k : ℕ) (ms : List Mark). read_marks k os' rs' ms) (sym (add-one number)) next_marks;
+        ∙ ap₂ (λ (k : ℕ) (ms : List Mark). read_marks k os' rs' ms) (sym (add-one number)) next-marks;
   }
     where
       one-is : one ≡ cond (is_first e.entry) 1 0

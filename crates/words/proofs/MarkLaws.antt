@@ -126,8 +126,8 @@ module _ (text : List ℕ) (i r : ℕ) (e : WordEnd text i r) where
   size : length (part text i r) ≡ r - i
   size = length-take-le (r - i) (drop i text) (simp length-drop (omega (arith, e.low, e.high)))
 
-  all_plain : (k : ℕ) → k < length (part text i r) → is_plain (get_or (part text i r) k 0) ≡ true
-  all_plain k h = ap is_plain (get_or-take (r - i) (drop i text) k 0 less ∙ get_or-drop i text k 0) ∙ e.plain (i + k) (omega arith) (omega (arith, e.low, less))
+  all-plain : (k : ℕ) → k < length (part text i r) → is_plain (get_or (part text i r) k 0) ≡ true
+  all-plain k h = ap is_plain (get_or-take (r - i) (drop i text) k 0 less ∙ get_or-drop i text k 0) ∙ e.plain (i + k) (omega arith) (omega (arith, e.low, less))
     where
       less : k < r - i
       less = omega (arith, size)
@@ -135,7 +135,7 @@ module _ (text : List ℕ) (i r : ℕ) (e : WordEnd text i r) where
   pub word-marks : i < r → marks_at Inside (drop i text) ≡ word (part text i r) ∷ marks_at Inside (drop r text)
   unfolding scan_at
   word-marks h =
-      ap (marks_at Inside) split ∙ ap shown (word-run (part text i r) (drop r text) all_plain)
+      ap (marks_at Inside) split ∙ ap shown (word-run (part text i r) (drop r text) all-plain)
       ∙ ap (λ (w : List ℕ). ended (part text i r ++ w) (scan_at (drop r text)).marks) none
       ∙ one_word (part text i r) (scan_at (drop r text)).marks (omega (arith, size))
       ∙ ap (λ (w : List ℕ). word (part text i r) ∷ ended w (scan_at (drop r text)).marks) (sym none)
