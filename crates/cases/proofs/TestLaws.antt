@@ -23,7 +23,7 @@ pub and_both : (a b : Bool) → (a && b) ≡ true → (a ≡ true) × (b ≡ tru
 and_both true b e = (refl, e)
 and_both false b e = absurd (subst T (sym e) tt)
 
--- ---- sameAll: two lists have the same entries, by a test of entries
+-- ---- same_all: two lists have the same entries, by a test of entries
 
 unfoldable pub same_all : {A : Type 0} → (A → A → Bool) → List A → List A → Bool
 same_all same [] [] = true

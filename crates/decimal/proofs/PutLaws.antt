@@ -40,7 +40,7 @@ digit-last out at n i b l e inside d =
     ∙ ap (λ (y : ℕ). overwrite out at (y ∷ [])) d
     ∙ ap (overwrite out at) (sym (decimal-small n l))
 
--- ---- integer, signed, signByte: of z, and of z as it is read back from its bits
+-- ---- integer, signed, sign_byte: of z, and of z as it is read back from its bits
 
 neg-text : (z : ℤ) (m : ℕ) → lt_z z (pos 0) ≡ true → m ≡ nat_abs z → 45 ∷ decimal m ≡ integer z
 neg-text (pos n) m t e = absurd (omega (arith, ltb-true n 0 t))

@@ -42,7 +42,7 @@ point-member (x ∷ xs) (suc k) h = Memᴰ.tail (point-member xs k (omega arith)
 abbrev Fours : List Candidate → Type 0
 Fours xs = (x : Candidate) → Memᴰ x xs → length x.vector ≡ 4
 
--- ---- values_of, modelsOf: what stands after the points does not matter
+-- ---- values_of, models_of: what stands after the points does not matter
 
 values-at : (xs : List Candidate) (ws : List ℤ) → Fours xs → (k j : ℕ) → k < length xs → j < 4 → get_or (values_of xs ++ ws) (k * 4 + j) (pos 0) ≡ get_or (point xs k).vector j (pos 0)
 unfolding values_of

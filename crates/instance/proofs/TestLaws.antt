@@ -1,4 +1,4 @@
--- Laws of `Decides`: what a flag tells in the arms of `if !flag`, and flags that decide; and of `isKind`.
+-- Laws of `Decides`: what a flag tells in the arms of `if !flag`, and flags that decide; and of `is_kind`.
 use mathlib.Core.Path.{◌≡◌, refl, subst, sym, ap, ◌∙◌}
 use mathlib.Core.Bool.{Bool, true, false, ◌||◌}
 use borrow.Author.Tests.{eqb-true, eq-eqb, ltb-true}
@@ -32,7 +32,7 @@ is_kind-true n (negsuc m) e = absurd (subst T (sym e) tt)
 pub is_kind-pos : (n : ℕ) (z : ℤ) → z ≡ pos n → is_kind n z ≡ true
 is_kind-pos n z e = subst (λ (x : ℤ). is_kind n x ≡ true) (sym e) (eq-eqb n n refl)
 
--- A test by `isKind` decides whether z is the number n.
+-- A test by `is_kind` decides whether z is the number n.
 pub is_kind-decides : {t : Bool} (n : ℕ) (z : ℤ) → t ≡ is_kind n z → Decides t (z ≡ pos n)
 is_kind-decides n z e = record { yes = λ y. is_kind-true n z (sym e ∙ y); no = λ y h. absurd (subst T (sym (is_kind-pos n z h) ∙ (sym e ∙ y)) tt) }
 

@@ -18,7 +18,7 @@ use Rattle.instance.specs.Terms.{Term}
 use Rattle.instance.specs.Rows.{Entry}
 use Rattle.writing.specs.Writing.{literal_text, term_text, terms_text, head_text, relation_text, bound_text, statement_text, statements_text}
 
--- ---- literalText: of z, and of z as it is read back from its bits; m is the size of z
+-- ---- literal_text: of z, and of z as it is read back from its bits; m is the size of z
 
 neg-literal : (z : ℤ) (m : ℕ) → lt_z z (pos 0) ≡ true → m ≡ nat_abs z → 126 ∷ (120 ∷ decimal m) ≡ literal_text z
 neg-literal (pos n) m t e = absurd (omega (arith, ltb-true n 0 t))

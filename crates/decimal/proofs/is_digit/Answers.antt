@@ -1,4 +1,4 @@
--- `decimal::is_digit` meets its contract: the two tests are the two of `isDigit`. Assumes nothing.
+-- `decimal::is_digit` meets its contract: the two tests are the two of the definition `is_digit`. Assumes nothing.
 use borrow.Author.Tests.{le-leb, lt-leb}
 use Rattle.decimal.proofs.is_digit.Goals as goal
 
