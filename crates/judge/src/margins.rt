@@ -45,7 +45,8 @@ pub fn first_unmet(terms: &[i32], rows: &[i64], first: usize, count: usize, a: u
 {
     let mut k: usize = 0;
     while k < count {
-        if margin_at(terms, rows, first + k, a) < 0 {
+        let unmet = margin_at(terms, rows, first + k, a) < 0;
+        if unmet {
             return k as u64 + 1;
         }
         k = k + 1;

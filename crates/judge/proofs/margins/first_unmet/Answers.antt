@@ -8,7 +8,7 @@ use Rattle.instance.specs.Meaning.{entry_at}
 use Rattle.integers.proofs.SignedLaws.{result_as}
 use Rattle.judge.proofs.MarginLaws.{row-breaks, row-meets}
 use Rattle.judge.proofs.UnmetLaws.{left-start, left-next, left_here, left-none}
-use Rattle.judge.proofs.margins.first_unmet.Goals.{After-margin_at}
+use Rattle.judge.proofs.margins.first_unmet.Goals.{After-margin_at-unmet}
 use Rattle.judge.proofs.margins.first_unmet.Goals as goal
 
 pub loop-k-init : goal.loop-k-init
@@ -17,26 +17,26 @@ loop-k-init c = (omega arith, left-start (entry_at c.args.terms.now c.args.rows.
 pub overflow_add-first : goal.overflow_add-first
 overflow_add-first c = omega (arith, c.requires.count_bound, c.requires.instance.few_objectives, c.requires.instance.few_rows)
 
-pub margin_at-requires : goal.margin_at-requires
-margin_at-requires c = record { instance = c.requires.instance; k_bound = omega (arith, c.requires.count_bound) }
+pub margin_at-unmet-requires : goal.margin_at-unmet-requires
+margin_at-unmet-requires c = record { instance = c.requires.instance; k_bound = omega (arith, c.requires.count_bound) }
 
 -- The row that is looked at, and its margin.
-abbrev row : After-margin_at → Entry
+abbrev row : After-margin_at-unmet → Entry
 row c = entry_at c.args.terms.now c.args.rows.now (c.args.first + c.loop-k.k)
 
-measured : (c : After-margin_at) → to_z w64 (of_z w64 c.margin_at.result) ≡ margin (row c) c.args.a
-measured c = result_as w64 c.margin_at.ensures c.margin_at.type_inv
+measured : (c : After-margin_at-unmet) → to_z w64 (of_z w64 c.margin_at-unmet.result) ≡ margin (row c) c.args.a
+measured c = result_as w64 c.margin_at-unmet.ensures c.margin_at-unmet.type_inv
 
-pub returns-then-margin_at-lt0 : goal.returns-then-margin_at-lt0
-returns-then-margin_at-lt0 c =
+pub returns-then-unmet : goal.returns-then-unmet
+returns-then-unmet c =
     sym (c.loop-k.invariant.1 ∙ left_here (entry_at c.args.terms.now c.args.rows.now) c.args.first c.args.count c.args.a c.loop-k.k c.loop-k-test.true
-    (row-breaks (row (goal.at.returns-then-margin_at-lt0 c).After-margin_at) c.args.a (to_z w64 (of_z w64 c.margin_at.result)) (measured (goal.at.returns-then-margin_at-lt0 c).After-margin_at) c.if-margin_at-lt0.true))
+    (row-breaks (row (goal.at.returns-then-unmet c).After-margin_at-unmet) c.args.a (to_z w64 (of_z w64 c.margin_at-unmet.result)) (measured (goal.at.returns-then-unmet c).After-margin_at-unmet) c.if-unmet.true))
 
 pub loop-k-preserved : goal.loop-k-preserved
 loop-k-preserved c = (
   omega arith,
   c.loop-k.invariant.1 ∙ left-next (entry_at c.args.terms.now c.args.rows.now) c.args.first c.args.count c.args.a c.loop-k.k c.loop-k-test.true
-      (row-meets (row (goal.at.loop-k-preserved c).After-margin_at) c.args.a (to_z w64 (of_z w64 c.margin_at.result)) (measured (goal.at.loop-k-preserved c).After-margin_at) c.if-margin_at-lt0.false),
+      (row-meets (row (goal.at.loop-k-preserved c).After-margin_at-unmet) c.args.a (to_z w64 (of_z w64 c.margin_at-unmet.result)) (measured (goal.at.loop-k-preserved c).After-margin_at-unmet) c.if-unmet.false),
 )
 
 pub returns : goal.returns
