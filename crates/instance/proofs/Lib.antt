@@ -4,6 +4,7 @@
 -- instance are one and mean it (LayoutLaws), and tables that are an instance are those that hold their meaning (MeaningLaws).
 -- TableLaws serve the check itself, ReadLaws serve LayoutLaws.
 pub mod TestLaws
+pub mod BitLaws
 pub mod ListLaws
 pub mod SumLaws
 pub mod TableLaws

@@ -3,6 +3,7 @@
 // Instance::of(terms, rows)   the sizes of the instance that tables are, or that they are none
 // Term::at, Entry::at         one term, one entry, of tables that are known to be an instance
 // Kind                        what an entry is: an objective or a row
+// bits::within                whether an assignment has no bit from n up
 // Term::, Entry::, Instance:: the limits, as constants of what they limit; Limits::all ties them to specs/Limits.antt
 //
 // The caller lends the tables; nothing here writes to them, and numbers beyond the room are not read.
@@ -10,6 +11,7 @@
 #![tactic(auto)]
 
 pub mod signed; // signed.rt: signed numbers as natural ones
+pub mod bits; // bits.rt: the bits of an assignment's number
 mod terms; // terms.rt: a term, and the highest variable of a run of terms
 mod kinds; // kinds.rt: what an entry is
 mod entries; // entries.rt: an entry, and its four numbers

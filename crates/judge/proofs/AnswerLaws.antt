@@ -11,38 +11,36 @@ use Rattle.instance.specs.Meaning.{entry_at, meaning, vector, Feasible}
 use Rattle.instance.proofs.ListLaws.{tabulate-length}
 use Rattle.judge.specs.Judging.{padded}
 use Rattle.judge.specs.Answers.{Answer, answer_of, Judges, JudgedAs}
-use Rattle.judge.specs.declared.judging.Judged.{Judged}
-use Rattle.judge.specs.declared.judging.Judged.TheVariants.{Done, NotInstance, BitsBeyond}
+use Rattle.std.specs.Prelude.{Result, Ok, Err}
+use Rattle.judge.specs.declared.errors.JudgeError.{JudgeError}
+use Rattle.judge.specs.declared.errors.JudgeError.TheVariants.{NotInstance, BitsBeyond}
 use Rattle.judge.specs.declared.judging.Judgement.{Judgement}
 use Rattle.judge.proofs.VectorLaws.{padded-get_or, padded-take, vector-length}
 use Rattle.judge.proofs.UnmetLaws.{feasible-unmet, unmet-feasible}
 
 -- ---- Judgement
-abbrev valued : List ℤ → ℕ → Judgement
-valued v r = record { first = get_or v 0 (pos 0); second = get_or v 1 (pos 0); third = get_or v 2 (pos 0); fourth = get_or v 3 (pos 0); row = r }
-
-judgement-same : (j k : Judgement) → (answer_of (Done j)).values ≡ (answer_of (Done k)).values → j.row ≡ k.row → j ≡ k
-judgement-same j k e f = ap (λ (v : List ℤ). valued v j.row) e ∙ ap (valued (answer_of (Done k)).values) f
+judgement-same : (j k : Judgement) → j.values ≡ k.values → j.row ≡ k.row → j ≡ k
+judgement-same j k e f = ap (λ (v : List ℤ). record { values = v; row = j.row }) e ∙ ap (λ (r : ℕ). record { values = k.values; row = r }) f
 
 -- ---- JudgedAs
 module _ (ts rs : List ℤ) (a : ℕ) where
   -- With the other way of each cause: where the tables are no instance the answer is NotInstance, and so on.
-  pub judged-unique : (r s : Judged) → JudgedAs ts rs a r → JudgedAs ts rs a s → r ≡ s
-  judged-unique (Done j) (Done k) p q = ap Done (judgement-same j k (p.values ∙ sym q.values) (p.row ∙ sym q.row))
-  judged-unique (Done j) NotInstance p q = absurd (q p.is)
-  judged-unique (Done j) BitsBeyond p q = absurd (omega (arith, p.bits, q.bits))
-  judged-unique NotInstance (Done k) p q = absurd (p q.is)
-  judged-unique NotInstance NotInstance p q = refl
-  judged-unique NotInstance BitsBeyond p q = absurd (p q.is)
-  judged-unique BitsBeyond (Done k) p q = absurd (omega (arith, p.bits, q.bits))
-  judged-unique BitsBeyond NotInstance p q = absurd (q p.is)
-  judged-unique BitsBeyond BitsBeyond p q = refl
+  pub judged-unique : (r s : Result Judgement JudgeError) → JudgedAs ts rs a r → JudgedAs ts rs a s → r ≡ s
+  judged-unique (Ok j) (Ok k) p q = ap Ok (judgement-same j k (p.values ∙ sym q.values) (p.row ∙ sym q.row))
+  judged-unique (Ok j) (Err NotInstance) p q = absurd (q p.is)
+  judged-unique (Ok j) (Err BitsBeyond) p q = absurd (omega (arith, p.bits, q.bits))
+  judged-unique (Err NotInstance) (Ok k) p q = absurd (p q.is)
+  judged-unique (Err NotInstance) (Err NotInstance) p q = refl
+  judged-unique (Err NotInstance) (Err BitsBeyond) p q = absurd (p q.is)
+  judged-unique (Err BitsBeyond) (Ok k) p q = absurd (omega (arith, p.bits, q.bits))
+  judged-unique (Err BitsBeyond) (Err NotInstance) p q = absurd (q p.is)
+  judged-unique (Err BitsBeyond) (Err BitsBeyond) p q = refl
 
   -- Of an instance, an assignment with no bit from n up is judged.
-  pub judged-done : IsInstance ts rs → a < 2 ^ (meaning ts rs).variables → (r : Judged) → JudgedAs ts rs a r → Judges ts rs a (answer_of r)
-  judged-done i h (Done j) p = p
-  judged-done i h NotInstance p = absurd (p i)
-  judged-done i h BitsBeyond p = absurd (omega (arith, p.bits))
+  pub judged-done : IsInstance ts rs → a < 2 ^ (meaning ts rs).variables → (r : Result Judgement JudgeError) → JudgedAs ts rs a r → Judges ts rs a (answer_of r)
+  judged-done i h (Ok j) p = p
+  judged-done i h (Err NotInstance) p = absurd (p i)
+  judged-done i h (Err BitsBeyond) p = absurd (omega (arith, p.bits))
 
 -- ---- Judges
 -- Feasible exactly where no row is unmet.

@@ -1,10 +1,12 @@
 -- Document 01, 'Refusal numbers' and 'Orders': what judging answers.
-use Rattle.std.specs.Prelude.{◌≡◌, List, [], ◌∷◌, ℕ, ◌^◌, ◌≤◌, ◌<◌, ℤ}
+use Rattle.std.specs.Prelude.{◌≡◌, List, [], ℕ, ◌^◌, ◌≤◌, ◌<◌, ℤ, Result, Ok, Err}
 use Rattle.instance.specs.Tables.{IsInstance}
 use Rattle.instance.specs.Meaning.{meaning, vector}
 use Rattle.judge.specs.Judging.{first_unmet, padded}
-use Rattle.judge.specs.declared.judging.Judged.{Judged}
-use Rattle.judge.specs.declared.judging.Judged.TheVariants.{Done, NotInstance, BitsBeyond}
+use Rattle.judge.specs.Refusals.{refusal_number}
+use Rattle.judge.specs.declared.judging.Judgement.{Judgement}
+use Rattle.judge.specs.declared.errors.JudgeError.{JudgeError}
+use Rattle.judge.specs.declared.errors.JudgeError.TheVariants.{NotInstance, BitsBeyond}
 
 -- An answer by the document: its number (0 for done), four values, a row.
 pub record Answer : Type 0 where
@@ -16,11 +18,10 @@ pub record Answer : Type 0 where
 abbrev pub refusal : ℕ → Answer
 refusal n = record { number = n; values = padded []; row = 0 }
 
--- The number and the values of each case: 10 for tables that are not an instance, 12 for an assignment that has a bit from n up.
-abbrev pub answer_of : Judged → Answer
-answer_of (Done j) = record { number = 0; values = j.first ∷ (j.second ∷ (j.third ∷ (j.fourth ∷ []))); row = j.row }
-answer_of NotInstance = refusal 10
-answer_of BitsBeyond = refusal 12
+-- The number and the values of each case.
+abbrev pub answer_of : Result Judgement JudgeError → Answer
+answer_of (Ok j) = record { number = 0; values = j.values; row = j.row }
+answer_of (Err e) = refusal (refusal_number e)
 
 -- The tables are an instance and the assignment has no bit from n up; the answer has its vector, unused values 0, and its first unmet row.
 pub record Judges (ts rs : List ℤ) (a : ℕ) (x : Answer) : Type 0 where
@@ -35,7 +36,7 @@ pub record Beyond (ts rs : List ℤ) (a : ℕ) : Type 0 where
   pub bits : 2 ^ (meaning ts rs).variables ≤ a
 
 -- Each case exactly where the document has it: refusal 10 first, then 12.
-abbrev pub JudgedAs : List ℤ → List ℤ → ℕ → Judged → Type 0
-JudgedAs ts rs a (Done j) = Judges ts rs a (answer_of (Done j))
-JudgedAs ts rs a NotInstance = IsInstance ts rs → ⊥
-JudgedAs ts rs a BitsBeyond = Beyond ts rs a
+abbrev pub JudgedAs : List ℤ → List ℤ → ℕ → Result Judgement JudgeError → Type 0
+JudgedAs ts rs a (Ok j) = Judges ts rs a (answer_of (Ok j))
+JudgedAs ts rs a (Err NotInstance) = IsInstance ts rs → ⊥
+JudgedAs ts rs a (Err BitsBeyond) = Beyond ts rs a

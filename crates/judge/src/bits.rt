@@ -1,12 +1,8 @@
 // Bits of an assignment's number: x_i is bit i - 1 (document 01, 'The front').
-ghost use Rattle.std.specs.Prelude.{◌≡◌, ◌<◌, ◌^◌};
+ghost use Rattle.std.specs.Prelude.{◌≡◌, ◌<◌};
 ghost use Rattle.instance.specs.Terms.{bit_set, IsLit, lit_true};
-ghost use Rattle.instance.specs.Tests.{Decides};
 
 use instance::signed::magnitude32;
-
-// Bits of the word that holds an assignment.
-const WORD_BITS: u64 = 64;
 
 // Bit j of an assignment.
 pub fn bit(a: u64, j: u64) -> bool
@@ -14,16 +10,6 @@ pub fn bit(a: u64, j: u64) -> bool
     ensures { result ≡ bit_set a j }
 {
     (a >> j) & 1 == 1
-}
-
-// Whether an assignment has no bit from n up.
-pub fn within(a: u64, n: u64) -> bool
-    ensures { Decides result (a < 2 ^ n) }
-{
-    if n < WORD_BITS {
-        return a >> n == 0;
-    }
-    true
 }
 
 // Whether a literal is true: i where x_i is 1, -i where it is 0.

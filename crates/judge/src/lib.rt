@@ -2,7 +2,9 @@
 //
 // judge_assignment(terms, rows, assignment)   answers the vector and the first unmet row, or refuses 10 or 12
 // value_of(.., k, assignment)                 the value of one objective, where the tables are known to be an instance
-// bits::bit, bits::within                     one bit of an assignment's number; whether it has no bit from n up
+// values_of(.., assignment)                    the four values of a vector, for the same callers
+// JudgeError                                  its refusals
+// bits::bit, bits::literal_true               one bit of an assignment's number; whether a literal is true
 //
 // The caller lends the tables; nothing here writes to them.
 // Read specs/Judging.antt (the first unmet row, the four values) and specs/Answers.antt (the contract). A caller needs
@@ -12,6 +14,8 @@
 pub mod bits; // bits.rt: bits of an assignment's number
 mod sums; // sums.rt: the value of a term, the sum of terms
 mod margins; // margins.rt: how far a row is from breaking, and the first row that is unmet
+mod errors; // errors.rt: why an assignment is not judged
 mod judging; // judging.rt: the answer
 
-pub use judging::{Judged, Judgement, judge_assignment, value_of};
+pub use errors::JudgeError;
+pub use judging::{Judgement, judge_assignment, value_of, values_of};

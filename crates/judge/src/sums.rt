@@ -16,7 +16,7 @@ pub fn term_value(terms: &[i32], k: usize, a: u64) -> i64
 {
     let t = Term::at(terms, k);
     if literal_true(t.lit, a) {
-        t.coef as i64
+        i64::from(t.coef)
     } else {
         0
     }
@@ -28,10 +28,8 @@ pub fn sum_of(terms: &[i32], first: usize, count: usize, a: u64) -> i64
     ensures { result ≡ sum (terms_at terms.now first count) a }
 {
     let mut total: i64 = 0;
-    let mut k: usize = 0;
-    while k < count {
-        total = total + term_value(terms, first + k, a);
-        k = k + 1;
+    for k in 0..count {
+        total += term_value(terms, first + k, a);
     }
     total
 }

@@ -12,10 +12,7 @@ use Rattle.judge.proofs.margins.first_unmet.Goals.{After-margin_at-unmet}
 use Rattle.judge.proofs.margins.first_unmet.Goals as goal
 
 pub loop-k-init : goal.loop-k-init
-loop-k-init c = (omega arith, left-start (entry_at c.args.terms.now c.args.rows.now) c.args.first c.args.count c.args.a)
-
-pub overflow_add-first : goal.overflow_add-first
-overflow_add-first c = omega (arith, c.requires.count_bound, c.requires.instance.few_objectives, c.requires.instance.few_rows)
+loop-k-init c = (left-start (entry_at c.args.terms.now c.args.rows.now) c.args.first c.args.count c.args.a)
 
 pub margin_at-unmet-requires : goal.margin_at-unmet-requires
 margin_at-unmet-requires c = record { instance = c.requires.instance; k_bound = omega (arith, c.requires.count_bound) }
@@ -29,16 +26,14 @@ measured c = result_as w64 c.margin_at-unmet.ensures c.margin_at-unmet.type_inv
 
 pub returns-then-unmet : goal.returns-then-unmet
 returns-then-unmet c =
-    sym (c.loop-k.invariant.1 ∙ left_here (entry_at c.args.terms.now c.args.rows.now) c.args.first c.args.count c.args.a c.loop-k.k c.loop-k-test.true
+    sym (c.loop-k.invariant ∙ left_here (entry_at c.args.terms.now c.args.rows.now) c.args.first c.args.count c.args.a c.loop-k.k c.loop-k-test.true
     (row-breaks (row (goal.at.returns-then-unmet c).After-margin_at-unmet) c.args.a (to_z w64 (of_z w64 c.margin_at-unmet.result)) (measured (goal.at.returns-then-unmet c).After-margin_at-unmet) c.if-unmet.true))
 
 pub loop-k-preserved : goal.loop-k-preserved
-loop-k-preserved c = (
-  omega arith,
-  c.loop-k.invariant.1 ∙ left-next (entry_at c.args.terms.now c.args.rows.now) c.args.first c.args.count c.args.a c.loop-k.k c.loop-k-test.true
-      (row-meets (row (goal.at.loop-k-preserved c).After-margin_at-unmet) c.args.a (to_z w64 (of_z w64 c.margin_at-unmet.result)) (measured (goal.at.loop-k-preserved c).After-margin_at-unmet) c.if-unmet.false),
-)
+loop-k-preserved c =
+  c.loop-k.invariant ∙ left-next (entry_at c.args.terms.now c.args.rows.now) c.args.first c.args.count c.args.a c.loop-k.k c.loop-k-test.true
+      (row-meets (row (goal.at.loop-k-preserved c).After-margin_at-unmet) c.args.a (to_z w64 (of_z w64 c.margin_at-unmet.result)) (measured (goal.at.loop-k-preserved c).After-margin_at-unmet) c.if-unmet.false)
 
 pub returns : goal.returns
 returns c =
-    sym (c.loop-k.invariant.1 ∙ left-none (entry_at c.args.terms.now c.args.rows.now) c.args.first c.args.count c.args.a c.loop-k.k (omega arith))
+    sym (c.loop-k.invariant ∙ left-none (entry_at c.args.terms.now c.args.rows.now) c.args.first c.args.count c.args.a c.loop-k.k (omega arith))

@@ -1,6 +1,5 @@
--- Each row passed holds. Invariant: the first unmet row of all is the first unmet row of those left. Measure: the rows left.
+-- Each row passed holds. Invariant: the first unmet row of all is the first unmet row of those left.
 use mathlib.Core.Path.{◌≡◌}
-use Prim.Native.Nat.{◌-◌, ◌≤◌}
 use Rattle.instance.specs.Lists.{tabulate}
 use Rattle.instance.specs.Meaning.{entry_at}
 use Rattle.judge.specs.Judging.{first_unmet}
@@ -9,7 +8,4 @@ use Rattle.judge.proofs.margins.first_unmet.Given as goal
 
 abbrev pub invariant-loop-k : goal.invariant-loop-k
 invariant-loop-k l =
-    (l.k ≤ l.count) × (first_unmet (tabulate (entry_at l.terms l.rows) l.first l.count) l.a ≡ unmet_left (entry_at l.terms l.rows) l.first l.count l.a l.k)
-
-abbrev pub decreases-loop-k : goal.decreases-loop-k
-decreases-loop-k l = l.count - l.k
+    first_unmet (tabulate (entry_at l.terms l.rows) l.first l.count) l.a ≡ unmet_left (entry_at l.terms l.rows) l.first l.count l.a l.k

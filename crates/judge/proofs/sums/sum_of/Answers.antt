@@ -16,10 +16,7 @@ use Rattle.judge.proofs.sums.sum_of.Goals as goal
 
 pub loop-k-init : goal.loop-k-init
 unfolding sum tabulate
-loop-k-init c = (omega arith, refl)
-
-pub overflow_add-first : goal.overflow_add-first
-overflow_add-first c = omega (arith, c.requires.few)
+loop-k-init c = refl
 
 pub term_value-total-requires : goal.term_value-total-requires
 term_value-total-requires c =
@@ -28,7 +25,7 @@ term_value-total-requires c =
 -- One term more.
 added : (c : After-term_value-total) → to_z w64 c.loop-k.total-bits +ℤ to_z w64 (of_z w64 c.term_value-total.result) ≡ sum (terms_at c.args.terms.now c.args.first (c.loop-k.k + 1)) c.args.a
 added c =
-    ap₂ ◌+ℤ◌ c.loop-k.invariant.1 (result_as w64 c.term_value-total.ensures c.term_value-total.type_inv)
+    ap₂ ◌+ℤ◌ c.loop-k.invariant (result_as w64 c.term_value-total.ensures c.term_value-total.type_inv)
     ∙ sym (sum_step c.args.terms.now c.args.first c.loop-k.k c.args.a)
 
 fits : (c : After-term_value-total) → SFits w64 (sum (terms_at c.args.terms.now c.args.first (c.loop-k.k + 1)) c.args.a)
@@ -42,8 +39,4 @@ pub overflow_add-total : goal.overflow_add-total
 overflow_add-total c = fits-as (added c) (fits c)
 
 pub loop-k-preserved : goal.loop-k-preserved
-loop-k-preserved c = (omega arith, read_as (added c) (fits c))
-
-pub returns : goal.returns
-returns c =
-    c.loop-k.invariant.1 ∙ ap (λ (n : ℕ). sum (terms_at c.args.terms.now c.args.first n) c.args.a) (omega arith)
+loop-k-preserved c = read_as (added c) (fits c)
