@@ -2,7 +2,7 @@
 use mathlib.Core.Path.{◌≡◌, refl, sym, ap, ap₂, ◌∙◌}
 use mathlib.Core.Bool.{Bool, true, false, ◌||◌}
 use mathlib.Core.List.{List, [], ◌∷◌}
-use mathlib.Core.Option.{Option, none}
+use Rattle.std.specs.Prelude.{Option, None}
 use Prim.Native.Nat.{ℕ, ◌≤◌}
 use native.Mathlib.Omega.{arith}
 use lib.Dec.{ltb}
@@ -27,7 +27,7 @@ use Rattle.reading.proofs.ParseLaws.{adds_none}
 use Rattle.reading.proofs.RunLaws.{or-none}
 use Rattle.reading.proofs.StatementLaws.{adds-last, objective-relation, relation-le, row-bound}
 
--- a statement of which a `;` ends none is not closed
+-- a statement of which a `;` ends None is not closed
 open_none : {c : Bool} → c ≡ is_closed [] → c ≡ true → {A : Type 0} → A
 unfolding is_closed
 open_none e h = clash (sym e ∙ h)
@@ -64,7 +64,7 @@ module _ {text : List ℕ} {first base : ℕ} {before after : List ℤ} {r : Run
 
     -- ---- an objective
 
-    objective-none-of : (r.stop.kind ≡ 1 → ⊥) → is_closed (marks_at Inside (drop first text)) ≡ true → objective (first_words (marks_at Inside (drop first text))) ≡ none
+    objective-none-of : (r.stop.kind ≡ 1 → ⊥) → is_closed (marks_at Inside (drop first text)) ≡ true → objective (first_words (marks_at Inside (drop first text))) ≡ None
     unfolding first_words
     objective-none-of n c = token-cases stops
         (λ k. open_none (run.reached.closed_as ∙ ap is_closed (token-none stops k)) c)
@@ -110,7 +110,7 @@ module _ {text : List ℕ} {first base : ℕ} {before after : List ℤ} {r : Run
 
     -- ---- a row
 
-    row-none-of : (r.stop.kind ≡ 2 → ⊥) → is_closed (marks_at Inside (drop first text)) ≡ true → row (first_words (marks_at Inside (drop first text))) ≡ none
+    row-none-of : (r.stop.kind ≡ 2 → ⊥) → is_closed (marks_at Inside (drop first text)) ≡ true → row (first_words (marks_at Inside (drop first text))) ≡ None
     unfolding first_words row
     row-none-of n c = token-cases stops
         (λ k. open_none (run.reached.closed_as ∙ ap is_closed (token-none stops k)) c)

@@ -2,7 +2,7 @@
 use mathlib.Core.Path.{◌≡◌, refl, sym, ap, ◌∙◌}
 use mathlib.Core.Bool.{Bool, true, false, not}
 use mathlib.Core.List.{List, [], ◌∷◌}
-use mathlib.Core.Option.{Option, none, some}
+use Rattle.std.specs.Prelude.{Option, None, Some}
 use Prim.Native.Nat.{ℕ, suc, ◌≤◌}
 use native.Mathlib.Omega.{arith}
 use lib.ListN.{length}
@@ -42,7 +42,7 @@ module _ (s : ℕ) (os rs : List Entry) where
   words_left (word w ∷ ms) l h = refl
 
   -- a statement that says no entry, or that no `;` ends, is refused
-  pub marks-broken : (ms : List Mark) → 1 ≤ length ms → (is_closed ms ≡ true → statement (first_words ms) ≡ none) → read_marks s os rs ms ≡ refused 3 s
+  pub marks-broken : (ms : List Mark) → 1 ≤ length ms → (is_closed ms ≡ true → statement (first_words ms) ≡ None) → read_marks s os rs ms ≡ refused 3 s
   unfolding read_on
   marks-broken ms l h = by (is_closed ms) refl
     where
@@ -51,7 +51,7 @@ module _ (s : ℕ) (os rs : List Entry) where
       by false e = read_as ms (open-all ms e) ∙ words_left ms l e
 
   -- an entry is tried, and the next statement is read
-  pub marks-entry : (ms : List Mark) (e : Entry) → is_closed ms ≡ true → statement (first_words ms) ≡ some e
+  pub marks-entry : (ms : List Mark) (e : Entry) → is_closed ms ≡ true → statement (first_words ms) ≡ Some e
       → read_marks s os rs ms ≡ go_on (verdict os rs e) s (read_marks (suc s) (add_to (is_first e) os e) (add_to (not (is_first e)) rs e) (rest_after ms))
   unfolding read_on
   marks-entry ms e h p = read_as ms (closed-first ms h) ∙ ap (λ (o : Option Entry). take_one o s os rs (λ os' rs'. read_on (suc s) os' rs' (statements (rest_after ms)).ended (statements (rest_after ms)).after)) p

@@ -1,7 +1,7 @@
 -- Laws of the grammar along the marks of a statement: a term more, and what breaks it. Assumes nothing.
 use mathlib.Core.Path.{◌≡◌, refl, sym, ap, ap₂, ◌∙◌}
 use mathlib.Core.List.{List, [], ◌∷◌, ◌++◌}
-use mathlib.Core.Option.{Option, none, some}
+use Rattle.std.specs.Prelude.{Option, None, Some}
 use Prim.Native.Nat.{ℕ}
 use native.Mathlib.Omega.{arith}
 use lib.Dec.{eqb}
@@ -15,19 +15,19 @@ use Rattle.reading.specs.Steps.{first_words, is_closed, rest_after, add_terms, B
 
 -- ---- add_term, add_terms
 
-add_none : (t : Option Term) → add_term t none ≡ none
-add_none none = refl
-add_none (some t) = refl
+add_none : (t : Option Term) → add_term t None ≡ None
+add_none None = refl
+add_none (Some t) = refl
 
-pub adds_none : (ts : List Term) → add_terms ts none ≡ none
+pub adds_none : (ts : List Term) → add_terms ts None ≡ None
 unfolding add_terms
 adds_none [] = refl
-adds_none (t ∷ ts) = ap (add_term (some t)) (adds_none ts)
+adds_none (t ∷ ts) = ap (add_term (Some t)) (adds_none ts)
 
 pub adds-append : (ts us : List Term) (e : Option Entry) → add_terms (ts ++ us) e ≡ add_terms ts (add_terms us e)
 unfolding add_terms
 adds-append [] us e = refl
-adds-append (t ∷ ts) us e = ap (add_term (some t)) (adds-append ts us e)
+adds-append (t ∷ ts) us e = ap (add_term (Some t)) (adds-append ts us e)
 
 -- ---- one word in front
 
@@ -47,7 +47,7 @@ row-two c l ws h = ap (λ (k : ℕ). row_step (eqb k 0) (add_term (term_of (numb
 -- ---- Broken
 
 -- where the first two words are no term, nothing goes on so
-broken-two : (c l : List ℕ) (ms : List Mark) → relation c ≡ 0 → term_of (number c) (literal l) ≡ none → Broken (word c ∷ (word l ∷ ms))
+broken-two : (c l : List ℕ) (ms : List Mark) → relation c ≡ 0 → term_of (number c) (literal l) ≡ None → Broken (word c ∷ (word l ∷ ms))
 unfolding first_words
 broken-two c l ms h e = record {
   objective_none = objective-two c l (first_words ms) ∙ ap (λ (t : Option Term). add_term t (objective (first_words ms))) e;
@@ -63,19 +63,19 @@ pub broken-stop : (c : List ℕ) (ms : List Mark) → Broken (word c ∷ (stop �
 unfolding first_words objective row
 broken-stop c ms = record { objective_none = refl; row_none = refl; more = omega arith }
 
-no-coef : (l : Option ℤ) {c : Option ℤ} → c ≡ none → term_of c l ≡ none
+no-coef : (l : Option ℤ) {c : Option ℤ} → c ≡ None → term_of c l ≡ None
 no-coef l e = ap (λ (z : Option ℤ). term_of z l) e
 
-no_lit : (c : Option ℤ) {l : Option ℤ} → l ≡ none → term_of c l ≡ none
-no_lit none e = refl
-no_lit (some c) e = ap (term_of (some c)) e
+no_lit : (c : Option ℤ) {l : Option ℤ} → l ≡ None → term_of c l ≡ None
+no_lit None e = refl
+no_lit (Some c) e = ap (term_of (Some c)) e
 
-pub broken-coef : (c : List ℕ) (ms : List Mark) → relation c ≡ 0 → number c ≡ none → Broken (word c ∷ ms)
+pub broken-coef : (c : List ℕ) (ms : List Mark) → relation c ≡ 0 → number c ≡ None → Broken (word c ∷ ms)
 broken-coef c [] h e = broken-one c
 broken-coef c (stop ∷ ms) h e = broken-stop c ms
 broken-coef c (word l ∷ ms) h e = broken-two c l ms h (no-coef (literal l) e)
 
-pub broken-lit : (c l : List ℕ) (ms : List Mark) → relation c ≡ 0 → literal l ≡ none → Broken (word c ∷ (word l ∷ ms))
+pub broken-lit : (c l : List ℕ) (ms : List Mark) → relation c ≡ 0 → literal l ≡ None → Broken (word c ∷ (word l ∷ ms))
 broken-lit c l ms h e = broken-two c l ms h (no_lit (number c) e)
 
 -- ---- Reached
@@ -84,7 +84,7 @@ pub reached-none : (ms : List Mark) → Reached [] ms ms
 unfolding add_terms
 reached-none ms = record { objective_as = refl; row_as = refl; closed_as = refl; rest_as = refl; more = λ h. h }
 
-pub reached-term : (c l : List ℕ) (ms : List Mark) (z y : ℤ) → relation c ≡ 0 → number c ≡ some z → literal l ≡ some y → Reached (record { coef = z; lit = y } ∷ []) (word c ∷ (word l ∷ ms)) ms
+pub reached-term : (c l : List ℕ) (ms : List Mark) (z y : ℤ) → relation c ≡ 0 → number c ≡ Some z → literal l ≡ Some y → Reached (record { coef = z; lit = y } ∷ []) (word c ∷ (word l ∷ ms)) ms
 unfolding first_words is_closed rest_after add_terms
 reached-term c l ms z y h e f = record {
   objective_as = objective-two c l (first_words ms) ∙ ap (λ (t : Option Term). add_term t (objective (first_words ms))) (ap₂ term_of e f);

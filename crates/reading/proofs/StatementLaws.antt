@@ -2,7 +2,7 @@
 use mathlib.Core.Path.{◌≡◌, refl, sym, ap, ap₂, ◌∙◌, subst}
 use mathlib.Core.Bool.{Bool, true, false, cond}
 use mathlib.Core.List.{List, [], ◌∷◌}
-use mathlib.Core.Option.{Option, none, some}
+use Rattle.std.specs.Prelude.{Option, None, Some}
 use Prim.Native.Nat.{ℕ, ◌≤◌}
 use native.Mathlib.Omega.{arith}
 use lib.Dec.{eqb}
@@ -24,19 +24,19 @@ use Rattle.reading.specs.Steps.{first_words, is_closed, add_terms, NoBound}
 -- ---- relation
 
 -- a relation's word is no number
-relation-one : (a : ℕ) (t : Bool) → eqb a 61 ≡ t → (◌≡◌ {A = ℕ} (cond t 4 0) 0 → ⊥) → number (a ∷ []) ≡ none
+relation-one : (a : ℕ) (t : Bool) → eqb a 61 ≡ t → (◌≡◌ {A = ℕ} (cond t 4 0) 0 → ⊥) → number (a ∷ []) ≡ None
 unfolding is_numeral all_digits
 relation-one a true e h = ap (λ (b : ℕ). number (b ∷ [])) (eqb-true a 61 e)
 relation-one a false e h = absurd (h refl)
 
-relation-two : (a b : ℕ) (t u v : Bool) → eqb b 61 ≡ t → eqb a 62 ≡ u → eqb a 60 ≡ v → (◌≡◌ {A = ℕ} (cond t (cond u 2 (cond v 3 0)) 0) 0 → ⊥) → number (a ∷ (b ∷ [])) ≡ none
+relation-two : (a b : ℕ) (t u v : Bool) → eqb b 61 ≡ t → eqb a 62 ≡ u → eqb a 60 ≡ v → (◌≡◌ {A = ℕ} (cond t (cond u 2 (cond v 3 0)) 0) 0 → ⊥) → number (a ∷ (b ∷ [])) ≡ None
 unfolding is_numeral all_digits
 relation-two a b true true v e f g h = ap₂ (λ (x y : ℕ). number (x ∷ (y ∷ []))) (eqb-true a 62 f) (eqb-true b 61 e)
 relation-two a b true false true e f g h = ap₂ (λ (x y : ℕ). number (x ∷ (y ∷ []))) (eqb-true a 60 g) (eqb-true b 61 e)
 relation-two a b true false false e f g h = absurd (h refl)
 relation-two a b false u v e f g h = absurd (h refl)
 
-pub relation-number : (w : List ℕ) → (relation w ≡ 0 → ⊥) → number w ≡ none
+pub relation-number : (w : List ℕ) → (relation w ≡ 0 → ⊥) → number w ≡ None
 relation-number [] h = refl
 relation-number (a ∷ []) h = relation-one a (eqb a 61) refl h
 relation-number (a ∷ (b ∷ [])) h = relation-two a b (eqb b 61) (eqb a 62) (eqb a 60) refl refl refl h
@@ -56,12 +56,12 @@ relation-le (a ∷ (b ∷ (c ∷ w))) = omega arith
 -- ---- the end of a statement
 
 -- terms in front of an end without terms
-pub adds-last : (ts : List Term) (k : ℕ) (b : ℤ) → add_terms ts (some (record { kind = k; terms = []; bound = b })) ≡ some (record { kind = k; terms = ts; bound = b })
+pub adds-last : (ts : List Term) (k : ℕ) (b : ℤ) → add_terms ts (Some (record { kind = k; terms = []; bound = b })) ≡ Some (record { kind = k; terms = ts; bound = b })
 unfolding add_terms
 adds-last [] k b = refl
-adds-last (t ∷ ts) k b = ap (add_term (some t)) (adds-last ts k b)
+adds-last (t ∷ ts) k b = ap (add_term (Some t)) (adds-last ts k b)
 
-pub objective-relation : (r : List ℕ) (ws : Words) → (relation r ≡ 0 → ⊥) → objective (r ∷ ws) ≡ none
+pub objective-relation : (r : List ℕ) (ws : Words) → (relation r ≡ 0 → ⊥) → objective (r ∷ ws) ≡ None
 unfolding objective
 objective-relation r [] h = refl
 objective-relation r (l ∷ ws) h = ap (λ (z : Option ℤ). add_term (term_of z (literal l)) (objective ws)) (relation-number r h)
@@ -70,9 +70,9 @@ pub row-bound : (r v : List ℕ) (ws : Words) → (relation r ≡ 0 → ⊥) →
 unfolding row
 row-bound r v ws h = ap (λ (t : Bool). row_step t (add_term (term_of (number r) (literal v)) (row ws)) (row_end (relation r) (number v) ws)) (ne_eqb (relation r) 0 h)
 
-end_more : (k : ℕ) (z : Option ℤ) (w : List ℕ) (ws : Words) → row_end k z (w ∷ ws) ≡ none
-end_more k none w ws = refl
-end_more k (some b) w ws = refl
+end_more : (k : ℕ) (z : Option ℤ) (w : List ℕ) (ws : Words) → row_end k z (w ∷ ws) ≡ None
+end_more k None w ws = refl
+end_more k (Some b) w ws = refl
 
 -- ---- NoBound
 
@@ -85,7 +85,7 @@ bound-none {text} {first} {t} n h = token-cases n
     (λ e. absurd (h e))
 
 -- a word that is no number
-pub bound-bad : {text : List ℕ} {first : ℕ} {t : Token} → NextToken text first Inside t → t.kind ≡ 2 → number (part text t.start t.end) ≡ none → NoBound (marks_at Inside (drop first text))
+pub bound-bad : {text : List ℕ} {first : ℕ} {t : Token} → NextToken text first Inside t → t.kind ≡ 2 → number (part text t.start t.end) ≡ None → NoBound (marks_at Inside (drop first text))
 unfolding first_words
 bound-bad {text} {first} {t} n h e = subst NoBound (sym (token-word n h)) (λ _ r g. row-bound r (part text t.start t.end) (first_words (marks_at Inside (drop t.end text))) g ∙ ap (λ (z : Option ℤ). row_end (relation r) z (first_words (marks_at Inside (drop t.end text)))) e)
 

@@ -1,7 +1,7 @@
 -- What a token tells of the statement that it stands in. Assumes nothing.
 use mathlib.Core.Path.{◌≡◌, sym, ap, ◌∙◌, subst}
 use mathlib.Core.List.{List, ◌∷◌}
-use mathlib.Core.Option.{none, some}
+use Rattle.std.specs.Prelude.{None, Some}
 use Prim.Native.Nat.{ℕ, ◌^◌, ◌<◌}
 use native.Mathlib.Omega.{arith}
 use lib.ListN.{drop}
@@ -26,15 +26,15 @@ module _ {text : List ℕ} {first : ℕ} {t : Token} (n : NextToken text first I
       (λ e. absurd (h e))
 
   -- a word that is no literal follows
-  pub bad-second : t.kind ≡ 2 → literal (part text t.start t.end) ≡ none → (c : List ℕ) → relation c ≡ 0 → Broken (word c ∷ marks_at Inside (drop first text))
+  pub bad-second : t.kind ≡ 2 → literal (part text t.start t.end) ≡ None → (c : List ℕ) → relation c ≡ 0 → Broken (word c ∷ marks_at Inside (drop first text))
   bad-second h e c r = subst (λ (ms : List Mark). Broken (word c ∷ ms)) (sym (token-word n h)) (broken-lit c (part text t.start t.end) (marks_at Inside (drop t.end text)) r e)
 
   -- a word that is neither a relation nor a number
-  pub bad-first : t.kind ≡ 2 → relation (part text t.start t.end) ≡ 0 → number (part text t.start t.end) ≡ none → Broken (marks_at Inside (drop first text))
+  pub bad-first : t.kind ≡ 2 → relation (part text t.start t.end) ≡ 0 → number (part text t.start t.end) ≡ None → Broken (marks_at Inside (drop first text))
   bad-first h r e = subst Broken (sym (token-word n h)) (broken-coef (part text t.start t.end) (marks_at Inside (drop t.end text)) r e)
 
   -- a coefficient's word, and what follows it
-  pub term_is : t.kind ≡ 2 → relation (part text t.start t.end) ≡ 0 → (x : Number) → number (part text t.start t.end) ≡ some (value x) → x.size < 10 ^ 10
+  pub term_is : t.kind ≡ 2 → relation (part text t.start t.end) ≡ 0 → (x : Number) → number (part text t.start t.end) ≡ Some (value x) → x.size < 10 ^ 10
       → (s : Step) → SecondIs text t.end x s → StepIs text first s
   term_is h r x e small s k = record {
     kind_most = k.kind_most;
@@ -43,7 +43,7 @@ module _ {text : List ℕ} {first : ℕ} {t : Token} (n : NextToken text first I
       lit_word = k.lit_word;
       marks = token-word n h ∙ ap (λ (ms : List Mark). word (part text t.start t.end) ∷ ms) (k.marks z);
       plain = r;
-      coef_is = e ∙ sym (ap (λ (y : Number). some (value y)) k.coef_kept);
+      coef_is = e ∙ sym (ap (λ (y : Number). Some (value y)) k.coef_kept);
       lit_is = k.lit_is z;
       coef_small = subst (λ (y : Number). y.size < 10 ^ 10) (sym k.coef_kept) small;
       lit_small = k.lit_small;

@@ -1,6 +1,6 @@
 -- Document 01, 'Instance text', 'Refusal numbers' 1 to 9 and their order.
 use Rattle.std.specs.Prelude.{Bool, true, false, not, cond, ◌||◌, ◌&&◌, List, [], ◌∷◌, ◌++◌, ℕ, zero, suc, ◌+◌, eqb, ltb, leb, nat_abs, length}
-use Rattle.std.proofs.Math.Option.{Option, none, some}
+use Rattle.std.specs.Prelude.{Option, None, Some}
 use Rattle.words.specs.declared.Place.TheVariants.{Start}
 use Rattle.words.specs.Tokens.{Mark, marks_at}
 use Rattle.instance.specs.Limits.{max_objectives, max_rows, max_terms, max_variable, max_coef, max_bound}
@@ -57,8 +57,8 @@ add_to false es e = es
 
 -- Statement s: refusal 3, 4 to 8, or the entry is added and the next statement read.
 abbrev pub take_one : Option Entry → ℕ → List Entry → List Entry → (List Entry → List Entry → Outcome) → Outcome
-take_one none s os rs more = refused 3 s
-take_one (some e) s os rs more = go_on (verdict os rs e) s (more (add_to (is_first e) os e) (add_to (not (is_first e)) rs e))
+take_one None s os rs more = refused 3 s
+take_one (Some e) s os rs more = go_on (verdict os rs e) s (more (add_to (is_first e) os e) (add_to (not (is_first e)) rs e))
 
 -- After the last statement: words that no `;` ends are one more, which breaks the grammar; then there must be an objective.
 abbrev pub finish : ℕ → List Entry → List Entry → Words → Outcome

@@ -1,6 +1,6 @@
 -- What the reader's parts answer: a term, a run of terms, a statement.
 use Rattle.std.specs.Prelude.{◌≡◌, Bool, true, false, ◌||◌, List, [], ◌∷◌, ℕ, ◌^◌, ◌≤◌, ◌<◌, ltb, ℤ, nat_abs, length, drop}
-use Rattle.std.proofs.Math.Option.{Option, none, some}
+use Rattle.std.specs.Prelude.{Option, None, Some}
 use Rattle.words.specs.declared.Place.TheVariants.{Inside}
 use Rattle.words.specs.declared.Token.{Token}
 use Rattle.words.specs.declared.numbers.Number.{Number}
@@ -37,12 +37,12 @@ rest_after (word w ∷ ms) = rest_after ms
 -- Terms in front of an objective's or a row's.
 unfoldable pub add_terms : List Term → Option Entry → Option Entry
 add_terms [] e = e
-add_terms (t ∷ ts) e = add_term (some t) (add_terms ts e)
+add_terms (t ∷ ts) e = add_term (Some t) (add_terms ts e)
 
 -- No words that go on so are an objective's terms or a row.
 pub record Broken (ms : List Mark) : Type 0 where
-  pub objective_none : objective (first_words ms) ≡ none
-  pub row_none : row (first_words ms) ≡ none
+  pub objective_none : objective (first_words ms) ≡ None
+  pub row_none : row (first_words ms) ≡ None
   pub more : 1 ≤ length ms
 
 -- From ms the terms lead to ms' in the same statement.
@@ -53,7 +53,7 @@ pub record Reached (ts : List Term) (ms ms' : List Mark) : Type 0 where
   pub rest_as : rest_after ms ≡ rest_after ms'
   pub more : 1 ≤ length ms' → 1 ≤ length ms
 
--- No term begins at the token t: it is a `;`, a relation, or there is none.
+-- No term begins at the token t: it is a `;`, a relation, or there is None.
 pub record IsStop (text : List ℕ) (first : ℕ) (t : Token) : Type 0 where
   pub next : NextToken text first Inside t
   pub relation_some : t.kind ≡ 2 → relation (part text t.start t.end) ≡ 0 → ⊥
@@ -64,8 +64,8 @@ pub record IsTerm (text : List ℕ) (first : ℕ) (s : Step) : Type 0 where
   pub lit_word : List ℕ
   pub marks : marks_at Inside (drop first text) ≡ word coef_word ∷ (word lit_word ∷ marks_at Inside (drop s.next text))
   pub plain : relation coef_word ≡ 0
-  pub coef_is : number coef_word ≡ some (value s.coef)
-  pub lit_is : literal lit_word ≡ some (value s.lit)
+  pub coef_is : number coef_word ≡ Some (value s.coef)
+  pub lit_is : literal lit_word ≡ Some (value s.lit)
   pub coef_small : s.coef.size < 10 ^ 10
   pub lit_small : s.lit.size < 10 ^ 10
   pub low : first < s.next
@@ -80,11 +80,11 @@ pub record SecondIs (text : List ℕ) (first : ℕ) (coef : Number) (s : Step) :
   pub lit_small : s.lit.size < 10 ^ 10
   pub low : s.kind ≡ 0 → first < s.next
   pub high : s.kind ≡ 0 → s.next ≤ length text
-  pub lit_is : s.kind ≡ 0 → literal lit_word ≡ some (value s.lit)
+  pub lit_is : s.kind ≡ 0 → literal lit_word ≡ Some (value s.lit)
   pub marks : s.kind ≡ 0 → marks_at Inside (drop first text) ≡ word lit_word ∷ marks_at Inside (drop s.next text)
   pub broken : s.kind ≡ 2 → (c : List ℕ) → relation c ≡ 0 → Broken (word c ∷ marks_at Inside (drop first text))
 
--- What stands where a term could begin: a term (0), none (1), or what breaks the grammar (2).
+-- What stands where a term could begin: a term (0), None (1), or what breaks the grammar (2).
 pub record StepIs (text : List ℕ) (first : ℕ) (s : Step) : Type 0 where
   pub kind_most : s.kind ≤ 2
   pub term : s.kind ≡ 0 → IsTerm text first s
@@ -118,14 +118,14 @@ pub record RunEnd (text : List ℕ) (first base : ℕ) (before after : List ℤ)
 pub record IsBound (text : List ℕ) (first : ℕ) (b : Bound) : Type 0 where
   pub bound_word : List ℕ
   pub marks : marks_at Inside (drop first text) ≡ word bound_word ∷ (stop ∷ marks_at Inside (drop b.next text))
-  pub says : number bound_word ≡ some (value b.value)
+  pub says : number bound_word ≡ Some (value b.value)
   pub small : b.value.size < 10 ^ 10
   pub low : 1 ≤ b.next
   pub high : b.next ≤ length text
 
 -- After a relation the marks are no bound and `;`: no row that a `;` ends goes on so.
 abbrev pub NoBound : List Mark → Type 0
-NoBound ms = is_closed ms ≡ true → (r : List ℕ) → (relation r ≡ 0 → ⊥) → row (r ∷ first_words ms) ≡ none
+NoBound ms = is_closed ms ≡ true → (r : List ℕ) → (relation r ≡ 0 → ⊥) → row (r ∷ first_words ms) ≡ None
 
 pub record BoundIs (text : List ℕ) (first : ℕ) (b : Bound) : Type 0 where
   pub yes_bound : b.ok ≡ true → IsBound text first b
@@ -134,7 +134,7 @@ pub record BoundIs (text : List ℕ) (first : ℕ) (b : Bound) : Type 0 where
 -- The entry that the words of a closed statement say, and what is known of it. `parse` reads the words.
 pub record EntryRead (parse : Words → Option Entry) (text : List ℕ) (ms : List Mark) (base : ℕ) (before after : List ℤ) (s : Statement) : Type 0 where
   pub entry : Entry
-  pub parsed : parse (first_words ms) ≡ some entry
+  pub parsed : parse (first_words ms) ≡ Some entry
   pub closed : is_closed ms ≡ true
   pub rest : rest_after ms ≡ marks_at Inside (drop s.next text)
   pub kind : s.kind ≡ entry.kind
@@ -153,7 +153,7 @@ pub record EntryRead (parse : Words → Option Entry) (text : List ℕ) (ms : Li
 pub record Closing (parse : Words → Option Entry) (text : List ℕ) (ms : List Mark) (base : ℕ) (before after : List ℤ) (s : Statement) : Type 0 where
   pub kept : Kept before after
   pub kind_some : s.kind ≡ 0 → ⊥
-  pub broken : s.kind ≡ 5 → is_closed ms ≡ true → parse (first_words ms) ≡ none
+  pub broken : s.kind ≡ 5 → is_closed ms ≡ true → parse (first_words ms) ≡ None
   pub entry_read : (s.kind ≡ 5 → ⊥) → EntryRead parse text ms base before after s
 
 -- What the marks ms of a part of a text begin with: nothing (0), or a statement.

@@ -3,7 +3,7 @@ use mathlib.Core.Path.{◌≡◌, refl}
 use mathlib.Core.Bool.{Bool, true, false, cond}
 use mathlib.Core.List.{List, [], ◌∷◌}
 use mathlib.Core.Logic.{◌⊎◌, inl, inr}
-use mathlib.Core.Option.{Option, none, some}
+use Rattle.std.specs.Prelude.{Option, None, Some}
 use Prim.Native.Nat.{ℕ, ◌≤◌}
 use native.Mathlib.Omega.{arith}
 use borrow.Author.Tests.{eqb-false}
@@ -22,8 +22,8 @@ Kinded e = ObjectiveOk e ⊎ ((2 ≤ e.kind) × (e.kind ≤ 4))
 
 -- The entry, if there is one, is so.
 abbrev pub SomeKinded : Option Entry → Type 0
-SomeKinded none = Unit {0}
-SomeKinded (some e) = Kinded e
+SomeKinded None = Unit {0}
+SomeKinded (Some e) = Kinded e
 
 -- ---- relation
 
@@ -45,10 +45,10 @@ relation-low (a ∷ (b ∷ (c ∷ w))) n = none-low n
 -- ---- a term more
 
 add-kinded : (t : Option Term) (o : Option Entry) → SomeKinded o → SomeKinded (add_term t o)
-add-kinded none o h = tt
-add-kinded (some t) none h = tt
-add-kinded (some t) (some e) (inl o) = inl (record { kind = o.kind; bound = o.bound })
-add-kinded (some t) (some e) (inr k) = inr k
+add-kinded None o h = tt
+add-kinded (Some t) None h = tt
+add-kinded (Some t) (Some e) (inl o) = inl (record { kind = o.kind; bound = o.bound })
+add-kinded (Some t) (Some e) (inr k) = inr k
 
 -- ---- objective, row, statement
 
@@ -59,9 +59,9 @@ objective-kinded (c ∷ []) = tt
 objective-kinded (c ∷ (l ∷ ws)) = add-kinded (term_of (number c) (literal l)) (objective ws) (objective-kinded ws)
 
 end-kinded : (k : ℕ) (z : Option ℤ) (ws : Words) → 2 ≤ k → k ≤ 4 → SomeKinded (row_end k z ws)
-end-kinded k none ws l h = tt
-end-kinded k (some b) [] l h = inr (l, h)
-end-kinded k (some b) (w ∷ ws) l h = tt
+end-kinded k None ws l h = tt
+end-kinded k (Some b) [] l h = inr (l, h)
+end-kinded k (Some b) (w ∷ ws) l h = tt
 
 step-kinded : (w v : List ℕ) (ws : Words) → SomeKinded (row ws) → SomeKinded (row_step (eqb (relation w) 0) (add_term (term_of (number w) (literal v)) (row ws)) (row_end (relation w) (number v) ws))
 step-kinded w v ws h = by (eqb (relation w) 0) refl

@@ -1,11 +1,11 @@
 -- What is read of a text that is accepted is an instance that tables can hold. Assumes nothing.
 --
--- The invariant of reading: the objectives and rows so far are held. At the start there are none. Each entry that passes the tests
+-- The invariant of reading: the objectives and rows so far are held. At the start there are None. Each entry that passes the tests
 -- keeps it (VerdictLaws), and any other ends in a refusal. At the end there must be an objective, else the text is refused too.
 use mathlib.Core.Path.{◌≡◌, refl, subst}
 use mathlib.Core.Bool.{not}
 use mathlib.Core.List.{List, [], ◌∷◌}
-use mathlib.Core.Option.{Option, none, some}
+use Rattle.std.specs.Prelude.{Option, None, Some}
 use Prim.Native.Nat.{ℕ, zero, suc, ◌≤◌}
 use native.Mathlib.Omega.{arith}
 use lib.ListN.{length}
@@ -35,8 +35,8 @@ go-held (suc k) s more h = tt
 
 take-held : (o : Option Entry) (s : ℕ) (os rs : List Entry) (more : List Entry → List Entry → Outcome) → SomeKinded o → Held os rs
     → ((os' rs' : List Entry) → Held os' rs' → HeldOutcome (more os' rs')) → HeldOutcome (take_one o s os rs more)
-take-held none s os rs more k h next = tt
-take-held (some e) s os rs more k h next =
+take-held None s os rs more k h next = tt
+take-held (Some e) s os rs more k h next =
     go-held (verdict os rs e) s (more (add_to (is_first e) os e) (add_to (not (is_first e)) rs e))
     (λ z. next (add_to (is_first e) os e) (add_to (not (is_first e)) rs e) (passes-held h k (verdict-passed os rs e z)))
 

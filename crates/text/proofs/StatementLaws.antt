@@ -6,7 +6,7 @@
 use mathlib.Core.Path.{◌≡◌, refl, sym, ap, ap₂, ◌∙◌, subst}
 use mathlib.Core.Bool.{Bool, true, false, cond}
 use mathlib.Core.List.{List, [], ◌∷◌, ◌++◌, append_assoc, Memᴰ}
-use mathlib.Core.Option.{Option, some}
+use Rattle.std.specs.Prelude.{Option, Some}
 use Prim.Native.Nat.{ℕ, ◌^◌, ◌≤◌, ◌<◌}
 use native.Mathlib.Omega.{arith}
 use lib.Dec.{eqb}
@@ -61,7 +61,7 @@ terms-reached (t ∷ ts) more h =
 -- The first statement of the marks is closed and says e; `rest` are the marks after it.
 pub record Says (ms : List Mark) (e : Entry) (rest : List Mark) : Type 0 where
   pub closed : is_closed ms ≡ true
-  pub entry : statement (first_words ms) ≡ some e
+  pub entry : statement (first_words ms) ≡ Some e
   pub after : rest_after ms ≡ rest
 
 abbrev entry_of : ℕ → List Term → ℤ → Entry
@@ -159,7 +159,7 @@ module _ (kind : ℕ) (bound : ℤ) (rest : List ℕ) where
       ∙ sym (ap (λ (ms : List Mark). row (first_words ms)) e)
 
   module _ (low : 2 ≤ kind) (high : kind ≤ 4) (small : nat_abs bound < 10 ^ max_digits) where
-    end-says : row (relation_text kind ∷ (integer bound ∷ [])) ≡ some (entry_of kind [] bound)
+    end-says : row (relation_text kind ∷ (integer bound ∷ [])) ≡ Some (entry_of kind [] bound)
     end-says =
         row-bound (relation_text kind) (integer bound) [] (λ e. omega (arith, relation-text kind low high))
         ∙ ap₂ (λ (k : ℕ) (z : Option ℤ). row_end k z []) (relation-text kind low high) (number-integer bound small)

@@ -2,7 +2,7 @@
 use mathlib.Core.Path.{◌≡◌, refl, ap, ◌∙◌}
 use mathlib.Core.Bool.{Bool, true, false, cond, ◌&&◌}
 use mathlib.Core.List.{List, [], ◌∷◌}
-use mathlib.Core.Option.{none, some}
+use Rattle.std.specs.Prelude.{None, Some}
 use Prim.Native.Nat.{ℕ, zero, suc, ◌^◌, ◌≤◌, ◌<◌}
 use native.Mathlib.Omega.{arith}
 use borrow.Author.Tests.{ne_eqb}
@@ -18,10 +18,10 @@ use Rattle.writing.specs.Writing.{literal_text, relation_text}
 
 -- ---- digits
 
-digits_decimal : (negative : Bool) (n : ℕ) → n < 10 ^ max_digits → digits negative (decimal n) ≡ some (sign_of negative n)
+digits_decimal : (negative : Bool) (n : ℕ) → n < 10 ^ max_digits → digits negative (decimal n) ≡ Some (sign_of negative n)
 digits_decimal negative n h =
-    ap (λ (t : Bool). cond t (some (sign_of negative (digits_value 0 (decimal n)))) none) (decimal-numeral n h)
-    ∙ ap (λ (v : ℕ). some (sign_of negative v)) (decimal-value n (omega arith))
+    ap (λ (t : Bool). cond t (Some (sign_of negative (digits_value 0 (decimal n)))) None) (decimal-numeral n h)
+    ∙ ap (λ (v : ℕ). Some (sign_of negative v)) (decimal-value n (omega arith))
 
 -- ---- the first byte of a number in decimal is a digit
 
@@ -33,11 +33,11 @@ first_to n = is_digit-to (get_or (decimal n) 0 0) (all_digits-at (decimal n) 0 (
 
 -- ---- number
 
-pub number-signed : (z : ℤ) → nat_abs z < 10 ^ max_digits → number (signed z) ≡ some z
+pub number-signed : (z : ℤ) → nat_abs z < 10 ^ max_digits → number (signed z) ≡ Some z
 number-signed (pos n) h = digits_decimal false n h
 number-signed (negsuc n) h = digits_decimal true (suc n) h
 
-pub number-integer : (z : ℤ) → nat_abs z < 10 ^ max_digits → number (integer z) ≡ some z
+pub number-integer : (z : ℤ) → nat_abs z < 10 ^ max_digits → number (integer z) ≡ Some z
 number-integer (pos n) h =
     number-plain (decimal n) (λ e. omega (arith, decimal-some n)) (λ e. omega (arith, first-from n)) (λ e. omega (arith, first-from n))
     ∙ digits_decimal false n h
@@ -45,7 +45,7 @@ number-integer (negsuc n) h = digits_decimal true (suc n) h
 
 -- ---- literal
 
-pub literal-text : (z : ℤ) → nat_abs z < 10 ^ max_digits → literal (literal_text z) ≡ some z
+pub literal-text : (z : ℤ) → nat_abs z < 10 ^ max_digits → literal (literal_text z) ≡ Some z
 literal-text (pos n) h = digits_decimal false n h
 literal-text (negsuc n) h = digits_decimal true (suc n) h
 

@@ -2,4 +2,3 @@
 pub mod ByteLaws
 pub mod MarkLaws
 pub mod NumberLaws
-pub mod TokenLaws

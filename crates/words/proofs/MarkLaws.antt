@@ -1,5 +1,6 @@
 -- Laws of the marks of a text: what skipping a byte, a word or a `;` leaves. Assumes nothing.
-use mathlib.Core.Path.{◌≡◌, refl, sym, ap, ◌∙◌}
+use mathlib.Core.Path.{◌≡◌, refl, sym, ap, ◌∙◌, subst}
+use Rattle.std.proofs.lemmas.List.{take_rest}
 use mathlib.Core.Bool.{Bool, true, false, not, cond, ◌||◌}
 use mathlib.Core.List.{List, [], ◌∷◌, ◌++◌, append-nil}
 use Prim.Native.Nat.{ℕ, suc, ◌+◌, ◌-◌, ◌≤◌, ◌<◌}
@@ -7,14 +8,14 @@ use native.Mathlib.Decide.{dec_lt}
 use native.Mathlib.Omega.{arith}
 use native.Mathlib.Numerals.{add-one}
 use lib.Dec.{eqb}
-use lib.ListN.{length, get_or, drop, take-append-drop, drop_of_length-le, length-drop}
+use lib.ListN.{length, get_or, take, drop, take-append-drop, drop_of_length-le, length-drop}
 use lib.Seq.{drop-cons, drop-drop, get_or-take, get_or-drop, length-take-le}
 use borrow.Author.Tests.{ne_eqb, not-true}
 use Rattle.words.specs.declared.Place.{Place}
 use Rattle.words.specs.declared.Place.TheVariants.{Inside, Start, Comment}
 use Rattle.words.specs.Bytes.{is_blank, is_plain, begins, is_kept, keep, place_after, next_place, uncommented}
 use Rattle.words.specs.Tokens.{Mark, word, stop, Scan, ended, shown, put, scan, marks_of, marks_at}
-use Rattle.words.specs.Answers.{part, WordEnd}
+use Rattle.words.specs.Answers.{Skipped, WordEnd}
 use Rattle.words.proofs.ByteLaws.{clash, plain-blank, plain-stop, not-blank-after, begins-false, begins-true}
 
 -- ---- one byte
@@ -58,18 +59,36 @@ module _ (text : List ℕ) (p : Place) (i : ℕ) where
   unfolding uncommented
   skip-end h = ap (marks_at p) (drop_of_length-le text h) ∙ sym (ap (marks_at Inside) (drop_of_length-le text h))
 
-pub none_end : (text : List ℕ) (i : ℕ) → length text ≤ i → marks_at Inside (drop i text) ≡ []
+-- past the end
+pub skip-past : (text : List ℕ) (p : Place) (i : ℕ) → length text ≤ i → marks_at p (drop i text) ≡ marks_at Inside (drop (length text) text)
+skip-past text p i h =
+    let e : drop i text ≡ drop (length text) text = drop_of_length-le text h ∙ sym (drop_of_length-le text (omega arith)) in
+    skip-end text p i h ∙ ap (marks_at Inside) e
+
+-- what is left of a text after i bytes that hold no token
+pub skipped-at : (text : List ℕ) (p : Place) (i : ℕ) → marks_at p text ≡ marks_at Inside (drop i text) → (i < length text → is_blank (get_or text i 0) ≡ false)
+    → Skipped text p (take (length text - i) (drop i text))
+skipped-at text p i e f =
+    let all : take (length text - i) (drop i text) ≡ drop i text = take_rest text i in
+    subst (Skipped text p) (sym all) (record {
+      few = omega (arith, length-drop i text);
+      same = e;
+      found = λ h.
+          let z : i + 0 ≡ i = omega arith in
+          ap is_blank (get_or-drop i text 0 0 ∙ ap (λ (k : ℕ). get_or text k 0) z) ∙ f (omega (arith, length-drop i text));
+    })
+
+pub none_end : (text : List ℕ) → length text ≤ 0 → marks_at Inside text ≡ []
 unfolding uncommented scan
-none_end text i h = ap (marks_at Inside) (drop_of_length-le text h)
+none_end [] h = refl
+none_end (b ∷ bs) h = absurd (omega arith)
 
 -- ---- `;`
 
-pub stop-marks : (text : List ℕ) (i : ℕ) → i < length text → get_or text i 0 ≡ 59 → marks_at Inside (drop i text) ≡ stop ∷ marks_at Inside (drop (i + 1) text)
+pub stop-marks : (text : List ℕ) → 0 < length text → get_or text 0 0 ≡ 59 → marks_at Inside text ≡ stop ∷ marks_at Inside (drop 1 text)
 unfolding uncommented scan
-stop-marks text i h e =
-    ap (marks_at Inside) (drop-cons text i 0 h)
-    ∙ ap (λ (b : ℕ). marks_at Inside (b ∷ drop (suc i) text)) e
-    ∙ ap (λ (k : ℕ). stop ∷ marks_at Inside (drop k text)) (sym (add-one i))
+stop-marks [] h e = absurd (omega arith)
+stop-marks (b ∷ bs) h e = ap (λ (c : ℕ). marks_at Inside (c ∷ bs)) e
 
 -- ---- words
 
@@ -116,43 +135,57 @@ one_word : (w : List ℕ) (ms : List Mark) → 1 ≤ length w → ended (w ++ []
 one_word [] ms h = absurd (omega arith)
 one_word (b ∷ w) ms h = ap (λ (v : List ℕ). word v ∷ ms) (append-nil (b ∷ w))
 
-module _ (text : List ℕ) (i r : ℕ) (e : WordEnd text i r) where
-  split : drop i text ≡ part text i r ++ drop r text
-  split = sym (take-append-drop (r - i) (drop i text)) ∙ ap (λ (bs : List ℕ). part text i r ++ bs) (drop-drop (r - i) i text ∙ ap (λ (k : ℕ). drop k text) up)
-    where
-      up : i + (r - i) ≡ r
-      up = omega (arith, e.low)
+-- the same, as what is left stands in a slice
+pub stop-next : (text : List ℕ) → 0 < length text → get_or text 0 0 ≡ 59
+    → (marks_at Inside text ≡ stop ∷ marks_at Inside (take (length text - 1) (drop 1 text))) × (length (take (length text - 1) (drop 1 text)) < length text)
+stop-next text h e =
+    let all : take (length text - 1) (drop 1 text) ≡ drop 1 text = take_rest text 1 in
+    let n : length (take (length text - 1) (drop 1 text)) ≡ length (drop 1 text) = ap length all in
+    (
+      stop-marks text h e ∙ ap (λ (bs : List ℕ). stop ∷ marks_at Inside bs) (sym all),
+      omega (arith, length-drop 1 text),
+    )
 
-  size : length (part text i r) ≡ r - i
-  size = length-take-le (r - i) (drop i text) (simp length-drop (omega (arith, e.low, e.high)))
+module _ (text : List ℕ) (r : ℕ) (e : WordEnd text r) where
+  size : length (take r text) ≡ r
+  size = length-take-le r text e.high
 
-  all-plain : (k : ℕ) → k < length (part text i r) → is_plain (get_or (part text i r) k 0) ≡ true
-  all-plain k h = ap is_plain (get_or-take (r - i) (drop i text) k 0 less ∙ get_or-drop i text k 0) ∙ e.plain (i + k) (omega arith) (omega (arith, e.low, less))
-    where
-      less : k < r - i
-      less = omega (arith, size)
+  all-plain : (k : ℕ) → k < length (take r text) → is_plain (get_or (take r text) k 0) ≡ true
+  all-plain k h =
+      let less : k < r = omega (arith, size) in
+      ap is_plain (get_or-take r text k 0 less) ∙ e.plain k less
 
-  pub word-marks : i < r → marks_at Inside (drop i text) ≡ word (part text i r) ∷ marks_at Inside (drop r text)
+  pub word-marks : 0 < r → marks_at Inside text ≡ word (take r text) ∷ marks_at Inside (drop r text)
   unfolding scan_at
   word-marks h =
-      ap (marks_at Inside) split ∙ ap shown (word-run (part text i r) (drop r text) all-plain)
-      ∙ ap (λ (w : List ℕ). ended (part text i r ++ w) (scan_at (drop r text)).marks) none
-      ∙ one_word (part text i r) (scan_at (drop r text)).marks (omega (arith, size))
-      ∙ ap (λ (w : List ℕ). word (part text i r) ∷ ended w (scan_at (drop r text)).marks) (sym none)
+      ap (marks_at Inside) (sym (take-append-drop r text)) ∙ ap shown (word-run (take r text) (drop r text) all-plain)
+      ∙ ap (λ (w : List ℕ). ended (take r text ++ w) (scan_at (drop r text)).marks) none
+      ∙ one_word (take r text) (scan_at (drop r text)).marks (omega (arith, size))
+      ∙ ap (λ (w : List ℕ). word (take r text) ∷ ended w (scan_at (drop r text)).marks) (sym none)
     where
       none : (scan_at (drop r text)).begun ≡ []
       none = rest-word text r e.found e.high
 
   -- a byte that is neither blank nor `;` is part of the word
-  pub word_more : i < length text → is_blank (get_or text i 0) ≡ false → (get_or text i 0 ≡ 59 → ⊥) → i < r
-  word_more l b n = by (dec_lt i r)
+  pub word_more : 0 < length text → is_blank (get_or text 0 0) ≡ false → (get_or text 0 0 ≡ 59 → ⊥) → 0 < r
+  word_more l b n = by (dec_lt 0 r)
     where
-      plain : is_plain (get_or text i 0) ≡ true
-      plain = ap (λ (t : Bool). not (t || eqb (get_or text i 0) 59)) b ∙ ap not (ne_eqb (get_or text i 0) 59 n)
+      plain : is_plain (get_or text 0 0) ≡ true
+      plain = ap (λ (t : Bool). not (t || eqb (get_or text 0 0) 59)) b ∙ ap not (ne_eqb (get_or text 0 0) 59 n)
 
-      by : Dec (i < r) → i < r
+      by : Dec (0 < r) → 0 < r
       by (yes h) = h
-      by (no h) = clash (sym (e.found (omega (arith, e.low))) ∙ ap (λ (k : ℕ). is_plain (get_or text k 0)) same ∙ plain)
-        where
-          same : r ≡ i
-          same = omega (arith, e.low)
+      by (no h) =
+          let same : r ≡ 0 = omega arith in
+          clash (sym (e.found (omega arith)) ∙ ap (λ (k : ℕ). is_plain (get_or text k 0)) same ∙ plain)
+
+  -- the same, as what is left stands in a slice
+  pub word-next : 0 < length text → is_blank (get_or text 0 0) ≡ false → (get_or text 0 0 ≡ 59 → ⊥)
+      → (marks_at Inside text ≡ word (take r text) ∷ marks_at Inside (take (length text - r) (drop r text))) × (length (take (length text - r) (drop r text)) < length text)
+  word-next l b n =
+      let all : take (length text - r) (drop r text) ≡ drop r text = take_rest text r in
+      let m : length (take (length text - r) (drop r text)) ≡ length (drop r text) = ap length all in
+      (
+        word-marks (word_more l b n) ∙ ap (λ (bs : List ℕ). word (take r text) ∷ marks_at Inside bs) (sym all),
+        omega (arith, length-drop r text, word_more l b n),
+      )
