@@ -1,22 +1,22 @@
 -- What reading a text answers and leaves, case by case; two answers that the contract allows are equal. Assumes nothing.
-use mathlib.Core.Path.{◌≡◌, refl, sym, ap, ap₂, ◌∙◌}
+use mathlib.Core.Path.{◌≡◌, refl, sym, ap, ap₂, ◌∙◌, subst}
 use mathlib.Core.Bool.{Bool, true, false, cond, ◌||◌}
 use mathlib.Core.List.{List, [], ◌++◌}
 use Prim.Native.Nat.{ℕ, ◌-◌, ◌≤◌, ◌<◌}
 use native.Mathlib.Omega.{arith}
-use lib.Dec.{ltb}
+use lib.Dec.{T, ltb}
 use lib.IntN.{ℤ, pos}
 use lib.ListN.{length, drop, replicate}
 use borrow.Author.Tests.{lt-ltb, le-ltb}
 use Rattle.instance.specs.Limits.{term_room, row_room}
 use Rattle.instance.specs.Layout.{term_numbers, all_terms, entry_numbers, filled, term_table, row_table}
-use Rattle.reading.specs.declared.texts.TextRead.{TextRead}
-use Rattle.reading.specs.declared.texts.TextRead.TheVariants.{Done, ShortTable, LongText}
-use Rattle.reading.specs.declared.verdicts.Reading.{Reading}
+use Rattle.std.specs.Prelude.{Result, Ok, Err, is_err}
+use Rattle.reading.specs.declared.errors.ReadError.{ReadError}
+use Rattle.reading.specs.declared.errors.ReadError.TheVariants.{ShortTable, LongText}
 use Rattle.reading.specs.Limits.{max_text}
-use Rattle.reading.specs.Reading.{Outcome, read_bytes}
-use Rattle.reading.specs.Outcomes.{AllTaken, ReadIs}
-use Rattle.reading.specs.Answers.{refusal_of, answer_of, entries_of, is_short, is_long, read_answer, read_terms, read_rows}
+use Rattle.reading.specs.Reading.{Outcome, accepted, refused, read_bytes}
+use Rattle.reading.specs.Outcomes.{ReadIs}
+use Rattle.reading.specs.Answers.{answer_of, entries_of, is_short, is_long, read_answer, read_terms, read_rows}
 use Rattle.reading.proofs.FillLaws.{fill-beyond, fill-length}
 
 -- ---- filled
@@ -57,15 +57,15 @@ or-true true b e = refl
 or-true false b e = e
 
 -- what reading answers and leaves
-abbrev pub Answers : List ℕ → List ℤ → List ℤ → TextRead → List ℤ → List ℤ → Type 0
+abbrev pub Answers : List ℕ → List ℤ → List ℤ → Result ℕ ReadError → List ℤ → List ℤ → Type 0
 Answers text ts rs r ts' rs' = (r ≡ read_answer text ts rs) × ((ts' ≡ read_terms text ts rs) × (rs' ≡ read_rows text ts rs))
 
 module _ (text : List ℕ) (ts rs : List ℤ) where
   answers-as : {short long : Bool} → is_short ts rs ≡ short → is_long text ≡ long
-      → {r : TextRead} {ts' rs' : List ℤ} → r ≡ cond short ShortTable (cond long LongText (answer_of (read_bytes text)))
+      → {r : Result ℕ ReadError} {ts' rs' : List ℤ} → r ≡ cond short (Err ShortTable) (cond long (Err LongText) (answer_of (read_bytes text)))
       → ts' ≡ cond (short || long) ts (term_table (entries_of (read_bytes text)) ts) → rs' ≡ cond (short || long) rs (row_table (entries_of (read_bytes text)) rs) → Answers text ts rs r ts' rs'
   answers-as {short} {long} s l p q o = (
-    p ∙ sym (ap₂ (λ (a b : Bool). cond a ShortTable (cond b LongText (answer_of (read_bytes text)))) s l),
+    p ∙ sym (ap₂ (λ (a b : Bool). cond a (Err ShortTable) (cond b (Err LongText) (answer_of (read_bytes text)))) s l),
     (
       q ∙ sym (ap₂ (λ (a b : Bool). cond (a || b) ts (term_table (entries_of (read_bytes text)) ts)) s l),
       o ∙ sym (ap₂ (λ (a b : Bool). cond (a || b) rs (row_table (entries_of (read_bytes text)) rs)) s l),
@@ -73,10 +73,10 @@ module _ (text : List ℕ) (ts rs : List ℤ) where
   )
 
   -- 1: a short table
-  pub short-terms : length ts < term_room → Answers text ts rs ShortTable ts rs
+  pub short-terms : length ts < term_room → Answers text ts rs (Err ShortTable) ts rs
   short-terms h = answers-as (ap (λ (b : Bool). b || ltb (length rs) row_room) (lt-ltb (length ts) term_room h)) refl refl refl refl
 
-  pub short-rows : length rs < row_room → Answers text ts rs ShortTable ts rs
+  pub short-rows : length rs < row_room → Answers text ts rs (Err ShortTable) ts rs
   short-rows h = answers-as (or-true (ltb (length ts) term_room) (ltb (length rs) row_room) (lt-ltb (length rs) row_room h)) refl refl refl refl
 
   module _ (t : term_room ≤ length ts) (r : row_room ≤ length rs) where
@@ -84,27 +84,35 @@ module _ (text : List ℕ) (ts rs : List ℤ) where
     wide = ap₂ ◌||◌ (le-ltb (length ts) term_room t) (le-ltb (length rs) row_room r)
 
     -- 2: a long text
-    pub long-text : max_text < length text → Answers text ts rs LongText ts rs
+    pub long-text : max_text < length text → Answers text ts rs (Err LongText) ts rs
     long-text h = answers-as wide (lt-ltb max_text (length text) h) refl refl refl
 
     module _ (l : length text ≤ max_text) {x y : List ℤ} (e : x ≡ term_table [] ts) (f : y ≡ row_table [] rs) where
-      -- 0: all statements taken
-      pub answers-done : {x' y' : List ℤ} (s : Reading) → AllTaken text x x' y y' s → Answers text ts rs (Done s.variables) x' y'
-      answers-done s a = answers-as wide (le-ltb max_text (length text) l)
-          (ap Done a.variables ∙ sym (ap answer_of a.says))
-          (a.terms_left ∙ refill term_room (term_numbers (all_terms (a.os ++ a.rs))) x ts (terms-beyond ts e) ∙ sym (ap (λ (o : Outcome). term_table (entries_of o) ts) a.says))
-          (a.rows_left ∙ refill row_room (entry_numbers 0 (a.os ++ a.rs)) y rs (rows-beyond rs f) ∙ sym (ap (λ (o : Outcome). row_table (entries_of o) rs) a.says))
+      module _ {x' y' : List ℤ} {a : Result ℕ ReadError} (s : ReadIs text x x' y y' a) where
+        -- 0: all statements taken
+        pub answers-done : is_err a ≡ false → Answers text ts rs a x' y'
+        answers-done n = by (read_bytes text) refl
+          where
+            by : (o : Outcome) → read_bytes text ≡ o → Answers text ts rs a x' y'
+            by (accepted os qs) q = answers-as wide (le-ltb max_text (length text) l)
+                s.answer
+                (s.terms_left os qs q ∙ refill term_room (term_numbers (all_terms (os ++ qs))) x ts (terms-beyond ts e) ∙ sym (ap (λ (o : Outcome). term_table (entries_of o) ts) q))
+                (s.rows_left os qs q ∙ refill row_room (entry_numbers 0 (os ++ qs)) y rs (rows-beyond rs f) ∙ sym (ap (λ (o : Outcome). row_table (entries_of o) rs) q))
+            by (refused k z) q = absurd (subst T (sym (ap is_err (s.answer ∙ ap answer_of q)) ∙ n) tt)
 
-      -- 3 to 9: a refusal, and both rooms are cleared again
-      pub answers-refused : {x' y' x'' y'' : List ℤ} (s : Reading) → ReadIs text x x' y y' s → (s.number ≡ 0 → ⊥) → {a : TextRead} → a ≡ refusal_of s.number s.statement
-          → x'' ≡ term_table [] x' → y'' ≡ row_table [] y' → Answers text ts rs a x'' y''
-      answers-refused {x'} {y'} s i n p q o = answers-as wide (le-ltb max_text (length text) l)
-          (p ∙ sym (ap answer_of (i.refusal n)))
-          (q ∙ refill term_room (term_numbers (all_terms [])) x' ts (i.terms_kept ∙ terms-beyond ts e) ∙ sym (ap (λ (u : Outcome). term_table (entries_of u) ts) (i.refusal n)))
-          (o ∙ refill row_room (entry_numbers 0 []) y' rs (i.rows_kept ∙ rows-beyond rs f) ∙ sym (ap (λ (u : Outcome). row_table (entries_of u) rs) (i.refusal n)))
+        -- 3 to 9: a refusal, and both rooms are cleared again
+        pub answers-refused : is_err a ≡ true → {x'' y'' : List ℤ} → x'' ≡ term_table [] x' → y'' ≡ row_table [] y' → Answers text ts rs a x'' y''
+        answers-refused n {x''} {y''} p q = by (read_bytes text) refl
+          where
+            by : (o : Outcome) → read_bytes text ≡ o → Answers text ts rs a x'' y''
+            by (accepted os qs) z = absurd (subst T (sym n ∙ ap is_err (s.answer ∙ ap answer_of z)) tt)
+            by (refused k m) z = answers-as wide (le-ltb max_text (length text) l)
+                s.answer
+                (p ∙ refill term_room (term_numbers (all_terms [])) x' ts (s.terms_kept ∙ terms-beyond ts e) ∙ sym (ap (λ (u : Outcome). term_table (entries_of u) ts) z))
+                (q ∙ refill row_room (entry_numbers 0 []) y' rs (s.rows_kept ∙ rows-beyond rs f) ∙ sym (ap (λ (u : Outcome). row_table (entries_of u) rs) z))
 
 -- ---- uniqueness
 
 -- two answers that the contract allows are equal, and so is what both tables hold
-pub read-unique : (text : List ℕ) (ts rs : List ℤ) {a b : TextRead} {ts' ts'' rs' rs'' : List ℤ} → Answers text ts rs a ts' rs' → Answers text ts rs b ts'' rs'' → (a ≡ b) × (ts' ≡ ts'') × (rs' ≡ rs'')
+pub read-unique : (text : List ℕ) (ts rs : List ℤ) {a b : Result ℕ ReadError} {ts' ts'' rs' rs'' : List ℤ} → Answers text ts rs a ts' rs' → Answers text ts rs b ts'' rs'' → (a ≡ b) × (ts' ≡ ts'') × (rs' ≡ rs'')
 read-unique text ts rs p q = (p.0 ∙ sym q.0, p.1.0 ∙ sym q.1.0, p.1.1 ∙ sym q.1.1)

@@ -3,178 +3,111 @@ use mathlib.Core.Path.{◌≡◌, refl, sym, ap, ap₂, ◌∙◌}
 use mathlib.Core.Bool.{Bool, true, false, ◌||◌}
 use mathlib.Core.List.{List, [], ◌∷◌}
 use Rattle.std.specs.Prelude.{Option, None}
-use Prim.Native.Nat.{ℕ, ◌≤◌}
+use Prim.Native.Nat.{ℕ, ◌+◌, ◌≤◌, ◌<◌}
 use native.Mathlib.Omega.{arith}
 use lib.Dec.{ltb}
-use lib.IntN.{ℤ, pos}
-use lib.ListN.{length, drop}
+use lib.IntN.{ℤ, pos, nat_abs}
+use lib.ListN.{length}
 use Rattle.words.specs.declared.Place.TheVariants.{Inside}
 use Rattle.words.specs.Tokens.{Mark, word, stop, marks_at}
 use Rattle.words.specs.Numbers.{relation}
-use Rattle.words.specs.Answers.{NextToken, part}
 use Rattle.words.proofs.ByteLaws.{clash}
-use Rattle.words.proofs.TokenLaws.{token-none, token-stop, token-word, token-cases}
 use Rattle.instance.specs.Limits.{max_bound}
+use Rattle.instance.specs.Kinds.{number_of}
 use Rattle.reading.specs.declared.terms.Run.{Run}
 use Rattle.reading.specs.declared.statements.Bound.{Bound}
 use Rattle.reading.specs.declared.statements.Statement.{Statement}
 use Rattle.reading.specs.Grammar.{objective, row, row_end}
 use Rattle.reading.specs.Reading.{any, is_wide}
-use Rattle.reading.specs.Stored.{value}
-use Rattle.reading.specs.Steps.{first_words, is_closed, rest_after, add_terms, RunIs, RunEnd, IsBound, BoundIs, Closing}
-use Rattle.reading.proofs.CellLaws.{value-abs}
+use Rattle.reading.specs.Steps.{first_words, is_closed, rest_after, add_terms, IsStop, RunIs, IsBound, NoBound, EntryRead}
 use Rattle.reading.proofs.ParseLaws.{adds_none}
 use Rattle.reading.proofs.RunLaws.{or-none}
 use Rattle.reading.proofs.StatementLaws.{adds-last, objective-relation, relation-le, row-bound}
 
--- a statement of which a `;` ends None is not closed
+-- a statement of which a `;` ends none is not closed
 open_none : {c : Bool} → c ≡ is_closed [] → c ≡ true → {A : Type 0} → A
 unfolding is_closed
 open_none e h = clash (sym e ∙ h)
 
-module _ {text : List ℕ} {first base : ℕ} {before after : List ℤ} {r : Run} (e : RunEnd text first base before after r) where
-  -- ---- a run that breaks the grammar
+module _ {text : List ℕ} {base : ℕ} {before after : List ℤ} {r : Run} (run : RunIs text base before after r) where
+  here : List Mark
+  here = marks_at Inside r.rest.now
 
-  pub objective-unread : r.ok ≡ false → (s : Statement) → s.kind ≡ 5 → Closing objective text (marks_at Inside (drop first text)) base before after s
-  objective-unread o s k = record {
-    kept = e.kept;
-    kind_some = λ z. omega arith;
-    broken = λ _ _. (e.no_run o).objective_none;
-    entry_read = λ n. absurd (n k);
+  -- nothing is left after the terms
+  pub objective-end : marks_at Inside r.rest.now ≡ [] → is_closed (marks_at Inside text) ≡ true → objective (first_words (marks_at Inside text)) ≡ None
+  objective-end e c = open_none (run.reached.closed_as ∙ ap is_closed e) c
+
+  pub row-end-none : marks_at Inside r.rest.now ≡ [] → is_closed (marks_at Inside text) ≡ true → row (first_words (marks_at Inside text)) ≡ None
+  row-end-none e c = open_none (run.reached.closed_as ∙ ap is_closed e) c
+
+  -- a relation after an objective's terms
+  pub objective-word : {w : List ℕ} {rest : List Mark} → marks_at Inside r.rest.now ≡ word w ∷ rest → (relation w ≡ 0 → ⊥) → objective (first_words (marks_at Inside text)) ≡ None
+  unfolding first_words
+  objective-word {w} {rest} e h =
+      run.reached.objective_as
+      ∙ ap (add_terms run.terms) (ap (λ (m : List Mark). objective (first_words m)) e ∙ objective-relation w (first_words rest) h)
+      ∙ adds_none run.terms
+
+  -- an objective
+  pub objective-done : {rest : List Mark} → marks_at Inside r.rest.now ≡ stop ∷ rest → (s : Statement) → rest ≡ marks_at Inside s.rest.now → length s.rest.now < length r.rest.now
+      → number_of s.kind ≡ 1 → s.count ≡ r.count → s.bound ≡ pos 0 → s.wide ≡ r.wide → s.unnamed ≡ r.unnamed → s.top ≡ r.top
+      → EntryRead objective (marks_at Inside text) (length text) base before after s
+  unfolding first_words is_closed rest_after objective
+  objective-done {rest} e s f l k n b w u t = record {
+    entry = record { kind = 1; terms = run.terms; bound = pos 0 };
+    parsed = run.reached.objective_as ∙ ap (λ (m : List Mark). add_terms run.terms (objective (first_words m))) e ∙ adds-last run.terms 1 (pos 0);
+    closed = run.reached.closed_as ∙ ap is_closed e;
+    rest = run.reached.rest_as ∙ ap rest_after e ∙ f;
+    kind = k;
+    kind_most = omega (arith, k);
+    count = n ∙ run.count;
+    few = omega (arith, n, run.few, l);
+    bound = b;
+    wide = w ∙ run.wide ∙ or-none (any is_wide run.terms);
+    unnamed = u ∙ run.unnamed;
+    top = t ∙ run.top;
+    left = run.left;
   }
 
-  pub row-unread : r.ok ≡ false → (s : Statement) → s.kind ≡ 5 → Closing row text (marks_at Inside (drop first text)) base before after s
-  row-unread o s k = record {
-    kept = e.kept;
-    kind_some = λ z. omega arith;
-    broken = λ _ _. (e.no_run o).row_none;
-    entry_read = λ n. absurd (n k);
-  }
+  -- ---- a row
 
-  module _ (o : r.ok ≡ true) where
-    run : RunIs text first base before after r
-    run = e.yes_run o
+  -- a `;` where a relation should stand
+  pub row-stop : {rest : List Mark} → marks_at Inside r.rest.now ≡ stop ∷ rest → row (first_words (marks_at Inside text)) ≡ None
+  unfolding first_words row
+  row-stop e = run.reached.row_as ∙ ap (λ (m : List Mark). add_terms run.terms (row (first_words m))) e ∙ adds_none run.terms
 
-    stops : NextToken text run.at Inside r.stop
-    stops = run.stops.next
+  module _ {w : List ℕ} {rest : List Mark} (e : marks_at Inside r.rest.now ≡ word w ∷ rest) (h : relation w ≡ 0 → ⊥) where
+    pub row-unbound : NoBound rest → is_closed (marks_at Inside text) ≡ true → row (first_words (marks_at Inside text)) ≡ None
+    unfolding first_words is_closed
+    row-unbound q c =
+        run.reached.row_as
+        ∙ ap (add_terms run.terms) (ap (λ (m : List Mark). row (first_words m)) e
+        ∙ q (sym (run.reached.closed_as ∙ ap is_closed e) ∙ c) w h)
+        ∙ adds_none run.terms
 
-    -- the token where the run stops lies in the text
-    pub run-stops : (r.stop.start ≤ r.stop.end) × (r.stop.end ≤ length text)
-    run-stops = (stops.order, stops.high)
-
-    -- ---- an objective
-
-    objective-none-of : (r.stop.kind ≡ 1 → ⊥) → is_closed (marks_at Inside (drop first text)) ≡ true → objective (first_words (marks_at Inside (drop first text))) ≡ None
-    unfolding first_words
-    objective-none-of n c = token-cases stops
-        (λ k. open_none (run.reached.closed_as ∙ ap is_closed (token-none stops k)) c)
-        (λ k. absurd (n k))
-        (λ k. run.reached.objective_as
-        ∙ ap (add_terms run.terms) (ap (λ (m : List Mark). objective (first_words m)) (token-word stops k)
-        ∙ objective-relation (part text r.stop.start r.stop.end) (first_words (marks_at Inside (drop r.stop.end text))) (run.stops.relation_some k))
-        ∙ adds_none run.terms)
-
-    pub objective-open : (r.stop.kind ≡ 1 → ⊥) → (s : Statement) → s.kind ≡ 5 → Closing objective text (marks_at Inside (drop first text)) base before after s
-    objective-open n s k = record {
-      kept = e.kept;
-      kind_some = λ z. omega arith;
-      broken = λ _ c. objective-none-of n c;
-      entry_read = λ m. absurd (m k);
+    pub row_done : {bytes : List ℕ} → rest ≡ marks_at Inside bytes → length bytes < length r.rest.now → (b : Bound) → IsBound bytes b → (s : Statement) → s.rest.now ≡ b.rest.now
+        → number_of s.kind ≡ relation w → s.count ≡ r.count → s.bound ≡ b.value → s.wide ≡ r.wide || ltb max_bound (nat_abs b.value) → s.unnamed ≡ r.unnamed → s.top ≡ r.top
+        → EntryRead row (marks_at Inside text) (length text) base before after s
+    unfolding first_words is_closed rest_after
+    row_done {bytes} m l b q s f k n g v u t = record {
+      entry = record { kind = relation w; terms = run.terms; bound = b.value };
+      parsed = run.reached.row_as
+          ∙ ap (add_terms run.terms) (ap (λ (x : List Mark). row (first_words x)) all
+          ∙ row-bound w q.bound_word [] h
+          ∙ ap (λ (z : Option ℤ). row_end (relation w) z []) q.says)
+          ∙ adds-last run.terms (relation w) b.value;
+      closed = run.reached.closed_as ∙ ap is_closed all;
+      rest = run.reached.rest_as ∙ ap rest_after all ∙ ap (marks_at Inside) (sym f);
+      kind = k;
+      kind_most = omega (arith, k, relation-le w);
+      count = n ∙ run.count;
+      few = let z : length s.rest.now ≡ length b.rest.now = ap length f in omega (arith, n, run.few, l, q.fewer);
+      bound = g;
+      wide = v ∙ ap (λ (x : Bool). x || ltb max_bound (nat_abs b.value)) run.wide;
+      unnamed = u ∙ run.unnamed;
+      top = t ∙ run.top;
+      left = run.left;
     }
-
-    pub objective-done : r.stop.kind ≡ 1
-        → Closing objective text (marks_at Inside (drop first text)) base before after (record { kind = 1; count = r.count; bound = pos 0; wide = r.wide; unnamed = r.unnamed; top = r.top; next = r.stop.end })
-    unfolding first_words is_closed rest_after objective
-    objective-done k = record {
-      kept = e.kept;
-      kind_some = λ z. omega arith;
-      broken = λ z. absurd (omega arith);
-      entry_read = λ _. record {
-        entry = record { kind = 1; terms = run.terms; bound = pos 0 };
-        parsed = run.reached.objective_as ∙ ap (λ (m : List Mark). add_terms run.terms (objective (first_words m))) (token-stop stops k) ∙ adds-last run.terms 1 (pos 0);
-        closed = run.reached.closed_as ∙ ap is_closed (token-stop stops k);
-        rest = run.reached.rest_as ∙ ap rest_after (token-stop stops k);
-        kind = refl;
-        kind_most = omega arith;
-        count = run.count;
-        few = run.few;
-        bound = refl;
-        wide = run.wide ∙ or-none (any is_wide run.terms);
-        unnamed = run.unnamed;
-        top = run.top;
-        left = run.left;
-        low = omega (arith, stops.used (omega arith));
-        high = stops.high;
-      };
-    }
-
-    -- ---- a row
-
-    row-none-of : (r.stop.kind ≡ 2 → ⊥) → is_closed (marks_at Inside (drop first text)) ≡ true → row (first_words (marks_at Inside (drop first text))) ≡ None
-    unfolding first_words row
-    row-none-of n c = token-cases stops
-        (λ k. open_none (run.reached.closed_as ∙ ap is_closed (token-none stops k)) c)
-        (λ k. run.reached.row_as ∙ ap (λ (m : List Mark). add_terms run.terms (row (first_words m))) (token-stop stops k) ∙ adds_none run.terms)
-        (λ k. absurd (n k))
-
-    pub row_open : (r.stop.kind ≡ 2 → ⊥) → (s : Statement) → s.kind ≡ 5 → Closing row text (marks_at Inside (drop first text)) base before after s
-    row_open n s k = record {
-      kept = e.kept;
-      kind_some = λ z. omega arith;
-      broken = λ _ c. row-none-of n c;
-      entry_read = λ m. absurd (m k);
-    }
-
-    module _ (k : r.stop.kind ≡ 2) where
-      -- the marks from the relation on
-      marks-here : marks_at Inside (drop run.at text) ≡ word (part text r.stop.start r.stop.end) ∷ marks_at Inside (drop r.stop.end text)
-      marks-here = token-word stops k
-
-      pub relation-some : relation (part text r.stop.start r.stop.end) ≡ 0 → ⊥
-      relation-some = run.stops.relation_some k
-
-      pub row-unbound : {b : Bound} → BoundIs text r.stop.end b → b.ok ≡ false → (s : Statement) → s.kind ≡ 5 → Closing row text (marks_at Inside (drop first text)) base before after s
-      unfolding first_words is_closed
-      row-unbound {b} q z s j = record {
-        kept = e.kept;
-        kind_some = λ y. omega arith;
-        broken = λ _ c. run.reached.row_as
-            ∙ ap (add_terms run.terms) (ap (λ (m : List Mark). row (first_words m)) marks-here
-            ∙ q.no_bound z (sym (run.reached.closed_as ∙ ap is_closed marks-here) ∙ c) (part text r.stop.start r.stop.end) relation-some)
-            ∙ adds_none run.terms;
-        entry_read = λ m. absurd (m j);
-      }
-
-      pub row_done : {b : Bound} → IsBound text r.stop.end b → {kind : ℕ} {bound : ℤ} {wide : Bool}
-          → kind ≡ relation (part text r.stop.start r.stop.end) → bound ≡ value b.value → wide ≡ r.wide || ltb max_bound b.value.size
-          → Closing row text (marks_at Inside (drop first text)) base before after (record { kind = kind; count = r.count; bound = bound; wide = wide; unnamed = r.unnamed; top = r.top; next = b.next })
-      unfolding first_words is_closed rest_after
-      row_done {b} q {kind} {bound} {wide} f g h = record {
-        kept = e.kept;
-        kind_some = λ z. relation-some (sym f ∙ z);
-        broken = λ z. absurd (omega (arith, relation-le (part text r.stop.start r.stop.end)));
-        entry_read = λ _. record {
-          entry = record { kind = relation (part text r.stop.start r.stop.end); terms = run.terms; bound = value b.value };
-          parsed = run.reached.row_as
-              ∙ ap (add_terms run.terms) (ap (λ (m : List Mark). row (first_words m)) all
-              ∙ row-bound (part text r.stop.start r.stop.end) q.bound_word [] relation-some
-              ∙ ap (λ (z : Option ℤ). row_end (relation (part text r.stop.start r.stop.end)) z []) q.says)
-              ∙ adds-last run.terms (relation (part text r.stop.start r.stop.end)) (value b.value);
-          closed = run.reached.closed_as ∙ ap is_closed all;
-          rest = run.reached.rest_as ∙ ap rest_after all;
-          kind = f;
-          kind_most = omega (arith, f, relation-le (part text r.stop.start r.stop.end));
-          count = run.count;
-          few = run.few;
-          bound = g;
-          wide = h ∙ ap₂ (λ (x : Bool) (n : ℕ). x || ltb max_bound n) run.wide (sym (value-abs b.value));
-          unnamed = run.unnamed;
-          top = run.top;
-          left = run.left;
-          low = q.low;
-          high = q.high;
-        };
-      }
-        where
-          all : marks_at Inside (drop run.at text) ≡ word (part text r.stop.start r.stop.end) ∷ (word q.bound_word ∷ (stop ∷ marks_at Inside (drop b.next text)))
-          all = marks-here ∙ ap (λ (m : List Mark). word (part text r.stop.start r.stop.end) ∷ m) q.marks
+      where
+        all : marks_at Inside r.rest.now ≡ word w ∷ (word q.bound_word ∷ (stop ∷ marks_at Inside b.rest.now))
+        all = e ∙ ap (λ (x : List Mark). word w ∷ x) (m ∙ q.marks)

@@ -1,56 +1,59 @@
 -- The statements of a text in turn: what holds before each, and what reading comes to. Assumes nothing.
-use mathlib.Core.Path.{◌≡◌, refl, sym, ap, ap₂, ◌∙◌, subst}
-use mathlib.Core.Bool.{Bool, true, false, not, cond}
+use mathlib.Core.Path.{◌≡◌, refl, sym, ap, ◌∙◌, subst}
+use mathlib.Core.Bool.{Bool, true, false, not}
 use mathlib.Core.List.{List, [], ◌∷◌, ◌++◌}
-use Prim.Native.Nat.{ℕ, zero, suc, ◌+◌, ◌-◌, ◌≤◌}
+use Prim.Native.Nat.{ℕ, zero, suc, ◌+◌, ◌≤◌}
 use native.Mathlib.Omega.{arith}
-use lib.Dec.{eqb}
+use lib.Dec.{T}
 use lib.IntN.{ℤ}
-use lib.ListN.{length, take, drop, length-append, length-drop}
-use lib.Seq.{take_all}
-use borrow.Author.Tests.{eq-eqb, ne_eqb}
+use lib.ListN.{length, drop, length-append}
+use Rattle.std.specs.Prelude.{Result, Ok, Err, None}
 use Rattle.words.specs.declared.Place.{Place}
+use Rattle.words.specs.declared.Place.TheVariants.{Start}
 use Rattle.words.specs.Tokens.{marks_at}
+use Rattle.instance.specs.Kinds.{number_of}
 use Rattle.instance.specs.Limits.{max_objectives, max_rows, max_terms, max_entries, term_room, row_room}
 use Rattle.instance.specs.Terms.{highest}
 use Rattle.instance.specs.Rows.{Entry}
 use Rattle.instance.specs.Layout.{all_terms, term_numbers, entry_numbers, term_table, row_table}
 use Rattle.reading.specs.declared.statements.Statement.{Statement}
-use Rattle.reading.specs.declared.verdicts.Reading.{Reading}
+use Rattle.reading.specs.declared.verdicts.Taken.{Taken}
+use Rattle.reading.specs.declared.errors.ReadError.{ReadError}
+use Rattle.reading.specs.declared.errors.ReadError.TheVariants.{Grammar, NoObjective}
 use Rattle.reading.specs.Grammar.{statement}
-use Rattle.reading.specs.Reading.{Outcome, refused, is_first, verdict, go_on, add_to, finish, read_marks, read_bytes}
-use Rattle.reading.specs.Steps.{rest_after, Kept, EntryRead, StatementIs}
-use Rattle.reading.specs.Outcomes.{place_at, late_by, full_by, verdict_by, ReadIs}
+use Rattle.reading.specs.Reading.{Outcome, accepted, refused, is_first, verdict, go_on, add_to, finish, read_marks, read_bytes}
+use Rattle.reading.specs.Steps.{first_words, is_closed, rest_after, Kept, EntryRead}
+use Rattle.reading.specs.Outcomes.{late_by, full_by, verdict_by, ReadIs}
+use Rattle.reading.specs.Answers.{refusal_of, answer_of}
 use Rattle.reading.proofs.FillLaws.{fill-length, fill-beyond, terms-room, rows-room}
 use Rattle.reading.proofs.MarksLaws.{marks-broken, marks-entry, marks-none}
 use Rattle.reading.proofs.VerdictLaws.{verdict-as}
 
 -- What holds before each statement: the entries so far, which the tables hold; and what is left of the text decides what it says.
-pub record Taking (text : List ℕ) (found rows now rows' : List ℤ) (at number objectives others total top : ℕ) : Type 0 where
+pub record Taking (text : List ℕ) (found rows now rows' : List ℤ) (rest : List ℕ) (place : Place) (number : ℕ) (taken : Taken) : Type 0 where
   pub os : List Entry
   pub rs : List Entry
-  pub inside : at ≤ length text
-  pub few_statements : number ≤ at + 1
-  pub objectives_is : objectives ≡ length os
-  pub others_is : others ≡ length rs
-  pub total_is : total ≡ length (all_terms (os ++ rs))
-  pub top_is : top ≡ highest (all_terms (os ++ rs))
+  pub few_statements : number + length rest ≤ length text + 1
+  pub objectives_is : taken.objectives ≡ length os
+  pub rows_is : taken.rows ≡ length rs
+  pub total_is : taken.terms ≡ length (all_terms (os ++ rs))
+  pub top_is : taken.top ≡ highest (all_terms (os ++ rs))
   pub few_objectives : length os ≤ max_objectives
   pub few_rows : length rs ≤ max_rows
   pub few_terms : length (all_terms (os ++ rs)) ≤ max_terms
   pub terms_left : now ≡ term_table (os ++ rs) found
   pub rows_left : rows' ≡ row_table (os ++ rs) rows
-  pub says : read_bytes text ≡ read_marks number os rs (marks_at (place_at at) (drop at text))
+  pub says : read_bytes text ≡ read_marks number os rs (marks_at place rest)
 
-pub taking-start : (text : List ℕ) (found rows : List ℤ) → found ≡ term_table [] found → rows ≡ row_table [] rows → Taking text found rows found rows 0 1 0 0 0 0
+pub taking-start : (text : List ℕ) (found rows : List ℤ) → found ≡ term_table [] found → rows ≡ row_table [] rows
+    → Taking text found rows found rows text Start 1 (record { objectives = 0; rows = 0; terms = 0; top = 0 })
 unfolding all_terms highest
 taking-start text found rows t r = record {
   os = [];
   rs = [];
-  inside = omega arith;
   few_statements = omega arith;
   objectives_is = refl;
-  others_is = refl;
+  rows_is = refl;
   total_is = refl;
   top_is = refl;
   few_objectives = omega arith;
@@ -61,22 +64,27 @@ taking-start text found rows t r = record {
   says = refl;
 }
 
--- the part of the text from `at` on
-pub part-drop : (text : List ℕ) (at : ℕ) → take (length text - at) (drop at text) ≡ drop at text
-part-drop text at = take_all (length text - at) (drop at text) (simp length-drop (omega arith))
+-- a refusal is no instance
+is_taken : Outcome → Bool
+is_taken (accepted os rs) = true
+is_taken (refused k s) = false
 
-pub statement-at : (text : List ℕ) (at : ℕ) {base : ℕ} {before after : List ℤ} {s : Statement} {p : Place} → p ≡ place_at at
-    → StatementIs (take (length text - at) (drop at text)) (marks_at p (take (length text - at) (drop at text))) base before after s
-    → StatementIs (drop at text) (marks_at (place_at at) (drop at text)) base before after s
-statement-at text at {base} {before} {after} {s} {p} e h =
-    subst (λ (q : Place). StatementIs (drop at text) (marks_at q (drop at text)) base before after s) e
-    (subst (λ (l : List ℕ). StatementIs l (marks_at p l) base before after s) (part-drop text at) h)
+not-taken : {k s : ℕ} {os rs : List Entry} {o : Outcome} → o ≡ refused k s → o ≡ accepted os rs → {A : Type 0} → A
+unfolding is_taken
+not-taken e f = absurd (subst T (ap is_taken (sym f ∙ e)) tt)
 
-module _ {text : List ℕ} {found rows now rows' : List ℤ} {at number objectives others total top : ℕ} (t : Taking text found rows now rows' at number objectives others total top) where
+same-os : {os rs os' rs' : List Entry} → accepted os rs ≡ accepted os' rs' → os ++ rs ≡ os' ++ rs'
+same-os e = ap entries e
+  where
+    entries : Outcome → List Entry
+    entries (accepted os rs) = os ++ rs
+    entries (refused k s) = []
+
+module _ {text : List ℕ} {found rows now rows' : List ℤ} {rest : List ℕ} {place : Place} {number : ℕ} {taken : Taken} (t : Taking text found rows now rows' rest place number taken) where
   entries-few : length (t.os ++ t.rs) ≤ max_entries
   entries-few = omega (arith, length-append t.os t.rs, t.few_objectives, t.few_rows)
 
-  pub taking-total : total ≤ max_terms
+  pub taking-total : taken.terms ≤ max_terms
   taking-total = omega (arith, t.total_is, t.few_terms)
 
   pub taking-terms : term_room ≤ length found → length now ≡ length found
@@ -92,67 +100,65 @@ module _ {text : List ℕ} {found rows now rows' : List ℤ} {at number objectiv
   rows-beyond = ap (drop row_room) t.rows_left ∙ fill-beyond row_room (entry_numbers 0 (t.os ++ t.rs)) rows (rows-room (t.os ++ t.rs) entries-few)
 
   -- a refusal at this statement
-  refused-at : {now' : List ℤ} → Kept now now' → (r : Reading) → (r.number ≡ 0 → ⊥) → read_bytes text ≡ refused r.number r.statement → ReadIs text found now' rows rows' r
-  refused-at k r n e = record {
-    terms_kept = k ∙ terms-beyond;
+  refused-at : {now' : List ℤ} → Kept now now' → (k s : ℕ) → read_bytes text ≡ refused k s → {e : ReadError} → e ≡ refusal_of k s → ReadIs text found now' rows rows' (Err e)
+  refused-at kept k s q r = record {
+    answer = ap Err r ∙ sym (ap answer_of q);
+    terms_kept = kept ∙ terms-beyond;
     rows_kept = rows-beyond;
-    taken = λ z. absurd (n z);
-    refusal = λ _. e;
+    terms_left = λ os rs a. not-taken q a;
+    rows_left = λ os rs a. not-taken q a;
   }
 
-  -- nothing is left: done, or no objective
-  pub taking-end : {now' : List ℤ} → now' ≡ now → marks_at (place_at at) (drop at text) ≡ [] → (r : Reading)
-      → (r.number ≡ cond (eqb objectives 0) 9 0) × (r.statement ≡ 0) × (r.variables ≡ top) → ReadIs text found now' rows rows' r
-  taking-end {now'} e n r h = by t.os (t.says ∙ marks-none number t.os t.rs (marks_at (place_at at) (drop at text)) n) refl
-    where
-      numbered : (b : Bool) → eqb objectives 0 ≡ b → r.number ≡ cond b 9 0
-      numbered b z = h.0 ∙ ap (λ (x : Bool). cond x 9 0) z
+  -- nothing is left
+  module _ {now' : List ℤ} (same : now' ≡ now) (none : marks_at place rest ≡ []) where
+    ends : read_bytes text ≡ finish number t.os t.rs []
+    ends = t.says ∙ marks-none number t.os t.rs (marks_at place rest) none
 
-      by : (os : List Entry) → read_bytes text ≡ finish number os t.rs [] → t.os ≡ os → ReadIs text found now' rows rows' r
-      by [] q z = refused-at (ap (drop term_room) e) r (λ y. nine (numbered true (eq-eqb objectives 0 (t.objectives_is ∙ ap length z))) y) (q ∙ ap₂ refused (sym (numbered true (eq-eqb objectives 0 (t.objectives_is ∙ ap length z)))) (sym h.1))
-        where
-          nine : r.number ≡ 9 → r.number ≡ 0 → ⊥
-          nine a b = omega arith
-      by (o ∷ os) q z = record {
-        terms_kept = ap (drop term_room) e ∙ terms-beyond;
-        rows_kept = rows-beyond;
-        taken = λ _. record {
-          os = o ∷ os;
-          rs = t.rs;
-          says = q;
-          terms_left = e ∙ t.terms_left ∙ ap (λ (l : List Entry). term_table (l ++ t.rs) found) z;
-          rows_left = t.rows_left ∙ ap (λ (l : List Entry). row_table (l ++ t.rs) rows) z;
-          variables = h.2 ∙ t.top_is ∙ ap (λ (l : List Entry). highest (all_terms (l ++ t.rs))) z;
-        };
-        refusal = λ y. absurd (y (numbered false (ne_eqb objectives 0 (λ x. some x))));
-      }
-        where
-          some : objectives ≡ 0 → ⊥
-          some x = omega (arith, t.objectives_is, ap length z)
+    -- no objective
+    pub taking-none : taken.objectives ≡ 0 → ReadIs text found now' rows rows' (Err NoObjective)
+    taking-none z = by t.os refl
+      where
+        by : (os : List Entry) → t.os ≡ os → ReadIs text found now' rows rows' (Err NoObjective)
+        by [] e = refused-at (ap (drop term_room) same) 9 0 (ends ∙ ap (λ (l : List Entry). finish number l t.rs []) e) refl
+        by (o ∷ os) e = absurd (omega (arith, t.objectives_is, ap length e))
+
+    -- done
+    pub taking-done : (taken.objectives ≡ 0 → ⊥) → ReadIs text found now' rows rows' (Ok taken.top)
+    taking-done n = by t.os refl
+      where
+        by : (os : List Entry) → t.os ≡ os → ReadIs text found now' rows rows' (Ok taken.top)
+        by [] e = absurd (n (t.objectives_is ∙ ap length e))
+        by (o ∷ os) e =
+            let whole : t.os ++ t.rs ≡ (o ∷ os) ++ t.rs = ap (λ (l : List Entry). l ++ t.rs) e in
+            let q : read_bytes text ≡ accepted (o ∷ os) t.rs = ends ∙ ap (λ (l : List Entry). finish number l t.rs []) e in
+            record {
+              answer = ap Ok (t.top_is ∙ ap (λ (l : List Entry). highest (all_terms l)) whole) ∙ sym (ap answer_of q);
+              terms_kept = ap (drop term_room) same ∙ terms-beyond;
+              rows_kept = rows-beyond;
+              terms_left = λ os' rs' a. same ∙ t.terms_left ∙ ap (λ (l : List Entry). term_table l found) (whole ∙ same-os (sym q ∙ a));
+              rows_left = λ os' rs' a. t.rows_left ∙ ap (λ (l : List Entry). row_table l rows) (whole ∙ same-os (sym q ∙ a));
+            }
 
   -- a statement that breaks the grammar
-  pub taking-broken : {now' : List ℤ} {s : Statement} → StatementIs (drop at text) (marks_at (place_at at) (drop at text)) total now now' s → s.kind ≡ 5 → (r : Reading) → r.number ≡ 3 → r.statement ≡ number → ReadIs text found now' rows rows' r
-  taking-broken {now'} {s} i k r n m = refused-at i.kept r (λ z. omega arith)
-      (t.says ∙ marks-broken number t.os t.rs (marks_at (place_at at) (drop at text)) (i.more some) ((i.closing some).broken k) ∙ sym (ap₂ refused n m))
-    where
-      some : s.kind ≡ 0 → ⊥
-      some z = omega arith
+  pub taking-broken : {now' : List ℤ} → Kept now now' → 1 ≤ length (marks_at place rest) → (is_closed (marks_at place rest) ≡ true → statement (first_words (marks_at place rest)) ≡ None)
+      → ReadIs text found now' rows rows' (Err (Grammar number))
+  taking-broken kept some broken = refused-at kept 3 number (t.says ∙ marks-broken number t.os t.rs (marks_at place rest) some broken) refl
 
   -- an entry
-  module _ {now' : List ℤ} {s : Statement} (e : EntryRead statement (drop at text) (marks_at (place_at at) (drop at text)) total now now' s) where
+  module _ {size : ℕ} {now' : List ℤ} {s : Statement} (e : EntryRead statement (marks_at place rest) size taken.terms now now' s) where
     -- what the text says goes by the verdict
-    pub goes : read_bytes text ≡ go_on (verdict t.os t.rs e.entry) number (read_marks (suc number) (add_to (is_first e.entry) t.os e.entry) (add_to (not (is_first e.entry)) t.rs e.entry) (rest_after (marks_at (place_at at) (drop at text))))
-    goes = t.says ∙ marks-entry number t.os t.rs (marks_at (place_at at) (drop at text)) e.entry e.closed e.parsed
+    pub goes : read_bytes text ≡ go_on (verdict t.os t.rs e.entry) number (read_marks (suc number) (add_to (is_first e.entry) t.os e.entry) (add_to (not (is_first e.entry)) t.rs e.entry) (rest_after (marks_at place rest)))
+    goes = t.says ∙ marks-entry number t.os t.rs (marks_at place rest) e.entry e.closed e.parsed
 
-    pub verdict-is : verdict_by (late_by s.kind others) (full_by s.kind objectives others) s.wide s.unnamed (total + s.count) ≡ verdict t.os t.rs e.entry
-    verdict-is = verdict-as t.os t.rs e.entry e.kind t.objectives_is t.others_is t.total_is e.count e.wide e.unnamed
+    pub verdict-is : verdict_by (late_by (number_of s.kind) taken.rows) (full_by (number_of s.kind) taken.objectives taken.rows) s.wide s.unnamed (taken.terms + s.count) ≡ verdict t.os t.rs e.entry
+    verdict-is = verdict-as t.os t.rs e.entry e.kind t.objectives_is t.rows_is t.total_is e.count e.wide e.unnamed
 
-    pub taking-refused : Kept now now' → (r : Reading) → (r.number ≡ 0 → ⊥) → r.number ≡ verdict t.os t.rs e.entry → r.statement ≡ number → ReadIs text found now' rows rows' r
-    taking-refused k r n v m = refused-at k r n (goes ∙ ap₂ (λ (a b : ℕ). go_on a b more) (sym v) (sym m) ∙ stays r.number n)
+    pub taking-refused : Kept now now' → (v : ℕ) → (v ≡ 0 → ⊥) → v ≡ verdict t.os t.rs e.entry → {r : ReadError} → r ≡ refusal_of v number → ReadIs text found now' rows rows' (Err r)
+    taking-refused kept v n q r = refused-at kept v number (goes ∙ ap (λ (k : ℕ). go_on k number more) (sym q) ∙ stays v n) r
       where
         more : Outcome
-        more = read_marks (suc number) (add_to (is_first e.entry) t.os e.entry) (add_to (not (is_first e.entry)) t.rs e.entry) (rest_after (marks_at (place_at at) (drop at text)))
+        more = read_marks (suc number) (add_to (is_first e.entry) t.os e.entry) (add_to (not (is_first e.entry)) t.rs e.entry) (rest_after (marks_at place rest))
 
-        stays : (k : ℕ) → (k ≡ 0 → ⊥) → go_on k r.statement more ≡ refused k r.statement
+        stays : (k : ℕ) → (k ≡ 0 → ⊥) → go_on k number more ≡ refused k number
         stays zero y = absurd (y refl)
         stays (suc k) y = refl

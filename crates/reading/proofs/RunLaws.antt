@@ -13,11 +13,12 @@ use Rattle.words.specs.Tokens.{Mark, marks_at}
 use Rattle.instance.specs.Limits.{max_terms, term_room}
 use Rattle.instance.specs.Terms.{Term, highest}
 use Rattle.instance.proofs.SumLaws.{highest-append}
-use Rattle.reading.specs.declared.terms.Step.{Step}
+use Rattle.reading.specs.declared.terms.TermRead.{TermRead}
+use Rattle.reading.specs.declared.terms.Run.{Run}
 use Rattle.reading.specs.Reading.{any, is_wide, is_unnamed}
-use Rattle.reading.specs.Stored.{value, term_of, is_stored, store_at, stored}
-use Rattle.reading.specs.Steps.{Reached, IsTerm, Kept}
-use Rattle.reading.proofs.CellLaws.{value-abs, store-full}
+use Rattle.reading.specs.Stored.{term_of, is_stored, store_at, stored}
+use Rattle.reading.specs.Steps.{Reached, IsTerm, Longer, RunIs, Kept}
+use Rattle.reading.proofs.CellLaws.{store-full}
 use Rattle.reading.proofs.ParseLaws.{reached-none, reached-term, reached_then}
 
 -- ---- any
@@ -65,6 +66,7 @@ stored-snoc : (ts : List ℤ) (k : ℕ) (us : List Term) (t : Term) → stored t
 unfolding stored
 stored-snoc ts k us t = stored-append ts k us (t ∷ [])
 
+-- what a choice between two tables keeps
 pick-length : (b : Bool) (xs ys : List ℤ) → length xs ≡ length ys → length (cond b xs ys) ≡ length ys
 pick-length true xs ys e = e
 pick-length false xs ys e = refl
@@ -99,74 +101,44 @@ stored-kept ts k (u ∷ us) = stored-kept (store_at ts k u) (suc k) us ∙ store
 
 -- ---- the run so far
 
-pub record Going (text : List ℕ) (first base : ℕ) (before now : List ℤ) (at count : ℕ) (wide unnamed : Bool) (top : ℕ) : Type 0 where
-  pub terms : List Term
-  pub low : first + length terms ≤ at
-  pub high : at ≤ length text
-  pub reached : Reached terms (marks_at Inside (drop first text)) (marks_at Inside (drop at text))
-  pub count_is : count ≡ length terms
-  pub wide_is : wide ≡ any is_wide terms
-  pub unnamed_is : unnamed ≡ any is_unnamed terms
-  pub top_is : top ≡ highest terms
-  pub left : now ≡ stored before base terms
-
-pub going_start : (text : List ℕ) (first base : ℕ) (before : List ℤ) → first ≤ length text → Going text first base before before first 0 false false 0
+pub run-start : (text : List ℕ) (base : ℕ) (before : List ℤ) (r : Run) → r.count ≡ 0 → r.wide ≡ false → r.unnamed ≡ false → r.top ≡ 0 → r.rest.now ≡ text → RunIs text base before before r
 unfolding any highest stored
-going_start text first base before h = record {
+run-start text base before r n w u t e = record {
   terms = [];
-  low = omega arith;
-  high = h;
-  reached = reached-none (marks_at Inside (drop first text));
-  count_is = refl;
-  wide_is = refl;
-  unnamed_is = refl;
-  top_is = refl;
+  reached = subst (λ (l : List ℕ). Reached [] (marks_at Inside text) (marks_at Inside l)) (sym e) (reached-none (marks_at Inside text));
+  few = let l : length r.rest.now ≡ length text = ap length e in omega arith;
+  count = n;
+  wide = w;
+  unnamed = u;
+  top = t;
   left = refl;
 }
 
 -- one term more: what is stored, the flags and the highest variable follow
-module _ {text : List ℕ} {first base : ℕ} {before now : List ℤ} {at count : ℕ} {wide unnamed : Bool} {top : ℕ} (g : Going text first base before now at count wide unnamed top) where
-  pub going-length : length now ≡ length before
-  going-length = ap length g.left ∙ stored-length before base g.terms
+module _ {text : List ℕ} {base : ℕ} {before now : List ℤ} {r : Run} (g : RunIs text base before now r) where
+  pub run-length : length now ≡ length before
+  run-length = ap length g.left ∙ stored-length before base g.terms
 
-  pub going-kept : Kept before now
-  going-kept = ap (drop term_room) g.left ∙ stored-kept before base g.terms
+  pub run-kept : Kept before now
+  run-kept = ap (drop term_room) g.left ∙ stored-kept before base g.terms
 
-  pub going_step : (s : Step) → IsTerm text at s → {now' : List ℤ} {wide' unnamed' : Bool} {top' : ℕ}
-      → now' ≡ store_at now (base + count) (term_of s.coef s.lit) → wide' ≡ wide || is_wide (term_of s.coef s.lit) → unnamed' ≡ unnamed || is_unnamed (term_of s.coef s.lit)
-      → top' ≡ max top s.lit.size → Going text first base before now' s.next (count + 1) wide' unnamed' top'
-  going_step s i e f h k = record {
-    terms = g.terms ++ (t ∷ []);
-    low = omega (arith, more, g.low, i.low);
-    high = i.high;
-    reached = reached_then g.terms (t ∷ []) g.reached one;
-    count_is = ap (λ (n : ℕ). n + 1) g.count_is ∙ sym more;
-    wide_is = f ∙ ap (λ (b : Bool). b || is_wide t) g.wide_is ∙ sym (any_snoc is_wide g.terms t);
-    unnamed_is = h ∙ ap (λ (b : Bool). b || is_unnamed t) g.unnamed_is ∙ sym (any_snoc is_unnamed g.terms t);
-    top_is = k ∙ ap₂ max g.top_is (sym (value-abs s.lit)) ∙ sym (highest-snoc g.terms t);
-    left = e ∙ ap₂ (λ (ts : List ℤ) (n : ℕ). store_at ts (base + n) t) g.left g.count_is ∙ sym (stored-snoc before base g.terms t);
+  pub run-step : (t : TermRead) (r' : Run) → IsTerm r.rest.now t → Longer r t r' → {now' : List ℤ} → now' ≡ store_at now (base + r.count) (term_of t.coef t.lit) → RunIs text base before now' r'
+  run-step t r' i l {now'} e = record {
+    terms = g.terms ++ (one ∷ []);
+    reached = subst (λ (x : List ℕ). Reached (g.terms ++ (one ∷ [])) (marks_at Inside text) (marks_at Inside x)) (sym l.rest) (reached_then g.terms (one ∷ []) g.reached step);
+    few = let n : length r'.rest.now ≡ length t.rest.now = ap length l.rest in omega (arith, l.count, g.few, i.fewer);
+    count = l.count ∙ ap (λ (n : ℕ). n + 1) g.count ∙ sym more;
+    wide = l.wide ∙ ap (λ (b : Bool). b || is_wide one) g.wide ∙ sym (any_snoc is_wide g.terms one);
+    unnamed = l.unnamed ∙ ap (λ (b : Bool). b || is_unnamed one) g.unnamed ∙ sym (any_snoc is_unnamed g.terms one);
+    top = l.top ∙ ap (λ (n : ℕ). max n (nat_abs t.lit)) g.top ∙ sym (highest-snoc g.terms one);
+    left = e ∙ ap₂ (λ (ts : List ℤ) (n : ℕ). store_at ts (base + n) one) g.left g.count ∙ sym (stored-snoc before base g.terms one);
   }
     where
-      t : Term
-      t = term_of s.coef s.lit
+      one : Term
+      one = term_of t.coef t.lit
 
-      more : length (g.terms ++ (t ∷ [])) ≡ length g.terms + 1
-      more = length-append g.terms (t ∷ [])
+      more : length (g.terms ++ (one ∷ [])) ≡ length g.terms + 1
+      more = length-append g.terms (one ∷ [])
 
-      one : Reached (t ∷ []) (marks_at Inside (drop at text)) (marks_at Inside (drop s.next text))
-      one = subst (λ (ms : List Mark). Reached (t ∷ []) ms (marks_at Inside (drop s.next text))) (sym i.marks) (reached-term i.coef_word i.lit_word (marks_at Inside (drop s.next text)) (value s.coef) (value s.lit) i.plain i.coef_is i.lit_is)
-
--- a kind that is neither 2 nor 1 is 0
-pub term-left : {k : ℕ} → k ≤ 2 → (k ≡ 2 → ⊥) → (k ≡ 1 → ⊥) → k ≡ 0
-term-left {k} h f g = by (dec_lt k 1)
-  where
-    two : 1 ≤ k → (k ≡ 1 → ⊥) → k ≡ 2
-    two l n = by2 (dec_lt k 2)
-      where
-        by2 : Dec (k < 2) → k ≡ 2
-        by2 (yes m) = absurd (n (omega arith))
-        by2 (no m) = omega arith
-
-    by : Dec (k < 1) → k ≡ 0
-    by (yes m) = omega arith
-    by (no m) = absurd (f (two (omega arith) g))
+      step : Reached (one ∷ []) (marks_at Inside r.rest.now) (marks_at Inside t.rest.now)
+      step = subst (λ (ms : List Mark). Reached (one ∷ []) ms (marks_at Inside t.rest.now)) (sym i.marks) (reached-term i.coef_word i.lit_word (marks_at Inside t.rest.now) t.coef t.lit i.plain i.coef_is i.lit_is)

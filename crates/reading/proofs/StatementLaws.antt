@@ -7,15 +7,10 @@ use Prim.Native.Nat.{ℕ, ◌≤◌}
 use native.Mathlib.Omega.{arith}
 use lib.Dec.{eqb}
 use lib.IntN.{ℤ}
-use lib.ListN.{drop}
 use borrow.Author.Tests.{ne_eqb, eqb-true}
-use Rattle.words.specs.declared.Place.TheVariants.{Inside}
-use Rattle.words.specs.declared.Token.{Token}
-use Rattle.words.specs.Tokens.{Mark, word, marks_at}
+use Rattle.words.specs.Tokens.{Mark, word, stop}
 use Rattle.words.specs.Numbers.{number, literal, relation}
-use Rattle.words.specs.Answers.{NextToken, part}
 use Rattle.words.proofs.ByteLaws.{clash}
-use Rattle.words.proofs.TokenLaws.{token-none, token-stop, token-word, token-cases}
 use Rattle.decimal.specs.Decimal.{is_numeral, all_digits}
 use Rattle.instance.specs.Terms.{Term}
 use Rattle.reading.specs.Grammar.{Words, term_of, add_term, objective, row, row_step, row_end}
@@ -76,28 +71,27 @@ end_more k (Some b) w ws = refl
 
 -- ---- NoBound
 
--- no word at all, or a `;` at once
-pub bound-none : {text : List ℕ} {first : ℕ} {t : Token} → NextToken text first Inside t → (t.kind ≡ 2 → ⊥) → NoBound (marks_at Inside (drop first text))
-unfolding is_closed first_words row
-bound-none {text} {first} {t} n h = token-cases n
-    (λ e. subst NoBound (sym (token-none n e)) (λ d. clash d))
-    (λ e. subst NoBound (sym (token-stop n e)) (λ _ r _. refl))
-    (λ e. absurd (h e))
+module _ {ms : List Mark} where
+  -- no word at all, or a `;` at once
+  pub bound-end : ms ≡ [] → NoBound ms
+  unfolding is_closed
+  bound-end e = subst NoBound (sym e) (λ d. clash d)
 
--- a word that is no number
-pub bound-bad : {text : List ℕ} {first : ℕ} {t : Token} → NextToken text first Inside t → t.kind ≡ 2 → number (part text t.start t.end) ≡ None → NoBound (marks_at Inside (drop first text))
-unfolding first_words
-bound-bad {text} {first} {t} n h e = subst NoBound (sym (token-word n h)) (λ _ r g. row-bound r (part text t.start t.end) (first_words (marks_at Inside (drop t.end text))) g ∙ ap (λ (z : Option ℤ). row_end (relation r) z (first_words (marks_at Inside (drop t.end text)))) e)
+  pub bound-stop : {rest : List Mark} → ms ≡ stop ∷ rest → NoBound ms
+  unfolding first_words row
+  bound-stop e = subst NoBound (sym e) (λ _ r _. refl)
 
--- a word, and after it no `;`
-pub bound-more : {text : List ℕ} {first : ℕ} {t u : Token} → NextToken text first Inside t → t.kind ≡ 2 → NextToken text t.end Inside u → (u.kind ≡ 1 → ⊥) → NoBound (marks_at Inside (drop first text))
-bound-more {text} {first} {t} {u} n h m k = subst NoBound (sym (token-word n h)) (token-cases m none_after (λ e. absurd (k e)) word_after)
-  where
-    v : List ℕ
-    v = part text t.start t.end
+  module _ {v : List ℕ} {rest : List Mark} (e : ms ≡ word v ∷ rest) where
+    -- a word that is no number
+    pub bound-bad : number v ≡ None → NoBound ms
+    unfolding first_words
+    bound-bad n = subst NoBound (sym e) (λ _ r g. row-bound r v (first_words rest) g ∙ ap (λ (z : Option ℤ). row_end (relation r) z (first_words rest)) n)
 
-    none_after : u.kind ≡ 0 → NoBound (word v ∷ marks_at Inside (drop t.end text))
-    none_after e = subst (λ (ms : List Mark). NoBound (word v ∷ ms)) (sym (token-none m e)) (λ d. clash (unfold is_closed in d))
+    -- a word, and after it no `;`
+    pub bound-open : rest ≡ [] → NoBound ms
+    unfolding is_closed
+    bound-open f = subst NoBound (sym (e ∙ ap (λ (l : List Mark). word v ∷ l) f)) (λ d. clash d)
 
-    word_after : u.kind ≡ 2 → NoBound (word v ∷ marks_at Inside (drop t.end text))
-    word_after e = subst (λ (ms : List Mark). NoBound (word v ∷ ms)) (sym (token-word m e)) (λ _ r g. unfold first_words in (row-bound r v (part text u.start u.end ∷ first_words (marks_at Inside (drop u.end text))) g ∙ end_more (relation r) (number v) (part text u.start u.end) (first_words (marks_at Inside (drop u.end text)))))
+    pub bound-more : {u : List ℕ} {rest' : List Mark} → rest ≡ word u ∷ rest' → NoBound ms
+    unfolding first_words
+    bound-more {u} {rest'} f = subst NoBound (sym (e ∙ ap (λ (l : List Mark). word v ∷ l) f)) (λ _ r g. row-bound r v (u ∷ first_words rest') g ∙ end_more (relation r) (number v) u (first_words rest'))

@@ -5,5 +5,6 @@ pub mod Reading
 pub mod Stored
 pub mod Steps
 pub mod Limits
+pub mod Refusals
 pub mod Answers
 pub mod Outcomes

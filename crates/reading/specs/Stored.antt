@@ -1,18 +1,12 @@
 -- What the reader stores in the term table while it reads a statement.
 use Rattle.std.specs.Prelude.{Bool, cond, not, ◌&&◌, List, [], ◌∷◌, ℕ, suc, ◌+◌, ◌*◌, ltb, ℤ, set}
-use Rattle.words.specs.declared.numbers.Number.{Number}
-use Rattle.words.specs.Numbers.{sign_of}
 use Rattle.instance.specs.Limits.{max_terms}
 use Rattle.instance.specs.Terms.{Term}
 use Rattle.reading.specs.Reading.{is_wide, is_unnamed}
 
--- The number that a sign and a size are.
-abbrev pub value : Number → ℤ
-value x = sign_of x.negative x.size
-
 -- The term of a coefficient and a literal.
-abbrev pub term_of : Number → Number → Term
-term_of c l = record { coef = value c; lit = value l }
+abbrev pub term_of : ℤ → ℤ → Term
+term_of c l = record { coef = c; lit = l }
 
 -- A term is stored at place k where there is room and it is in range.
 abbrev pub is_stored : ℕ → Term → Bool

@@ -1,129 +1,75 @@
 // The tables' cells: what a term and an entry leave in them.
-ghost use Rattle.std.specs.Prelude.{◌≡◌, [], ◌∷◌, ◌*◌, ◌^◌, ◌≤◌, ◌<◌, max, eqb, ltb, ◌||◌, pos, length};
+ghost use Rattle.std.specs.Prelude.{◌≡◌, [], ◌∷◌, ◌*◌, ◌^◌, ◌≤◌, ◌<◌, eqb, ltb, ◌||◌, pos, nat_abs, length};
 ghost use Rattle.std.proofs.lemmas.List.Edits.{sets};
+ghost use Rattle.instance.specs.Kinds.{number_of};
 ghost use Rattle.instance.specs.Limits.{max_coef, max_variable, max_bound, max_entries, term_room, row_room};
 ghost use Rattle.instance.specs.Layout.{term_table, row_table};
-ghost use Rattle.reading.specs.Stored.{value, term_of, store_at};
+ghost use Rattle.reading.specs.Stored.{term_of, store_at};
 
 use instance::{Entry, Instance, Term};
-use words::numbers::Number;
 
 // Whether a coefficient is out of range.
-pub fn is_wide(size: u64) -> bool
-    ensures { result ≡ ltb max_coef size }
+pub fn is_wide(coef: i64) -> bool
+    ensures { result ≡ ltb max_coef (nat_abs coef) }
 {
-    Term::MAX_COEF < size
+    Term::MAX_COEF < coef.unsigned_abs()
 }
 
 // Whether a bound is out of range.
-pub fn is_far(size: u64) -> bool
-    ensures { result ≡ ltb max_bound size }
+pub fn is_far(bound: i64) -> bool
+    ensures { result ≡ ltb max_bound (nat_abs bound) }
 {
-    Entry::MAX_BOUND < size
+    Entry::MAX_BOUND < bound.unsigned_abs()
 }
 
-// Whether a variable is 0 or too high.
-pub fn is_unnamed(size: u64) -> bool
-    ensures { result ≡ (eqb size 0 || ltb max_variable size) }
+// Whether a literal's variable is 0 or too high.
+pub fn is_unnamed(lit: i64) -> bool
+    ensures { result ≡ (eqb (nat_abs lit) 0 || ltb max_variable (nat_abs lit)) }
 {
-    if size == 0 {
-        return true;
-    }
-    Term::MAX_VARIABLE < size
-}
-
-// Either of two flags.
-pub fn either(a: bool, b: bool) -> bool
-    ensures { result ≡ (a || b) }
-{
-    if a {
-        return true;
-    }
-    b
-}
-
-// The higher of two variables.
-pub fn higher(a: u64, b: u64) -> u64
-    ensures { result ≡ max a b }
-{
-    if a < b { b } else { a }
-}
-
-// The number of a sign and a size of at most 10 digits.
-pub fn wide_value(x: Number) -> i64
-    requires { x.size < 10 ^ 10 }
-    ensures { result ≡ value x }
-{
-    if x.negative {
-        return -(x.size as i64);
-    }
-    x.size as i64
-}
-
-// The number of a sign and a size that a coefficient or a literal may have.
-pub fn narrow_value(x: Number) -> i32
-    requires { x.size ≤ max_coef }
-    ensures { result ≡ value x }
-{
-    if x.negative {
-        return -(x.size as i32);
-    }
-    x.size as i32
+    let variable = lit.unsigned_abs();
+    variable == 0 || Term::MAX_VARIABLE < variable
 }
 
 // Stores a term at place k, if there is room and it is in range.
-pub fn store_term(terms: &mut [i32], k: usize, coef: Number, lit: Number)
+pub fn store_term(terms: &mut [i32], k: usize, coef: i64, lit: i64)
     requires { term_room ≤ length terms.old }
     ensures { terms.new ≡ store_at terms.old k (term_of coef lit) }
 {
     if Instance::MAX_TERMS <= k {
         return;
     }
-    if is_wide(coef.size) {
+    if is_wide(coef) {
         return;
     }
-    if is_unnamed(lit.size) {
+    if is_unnamed(lit) {
         return;
     }
     let at = k * Term::NUMBERS;
-    terms[at] = narrow_value(coef);
-    terms[at + 1] = narrow_value(lit);
+    terms[at] = coef as i32;
+    terms[at + 1] = lit as i32;
 }
 
 // Stores entry k.
-pub fn store_entry(rows: &mut [i64], k: usize, kind: u64, first: usize, count: usize, bound: i64)
+pub fn store_entry(rows: &mut [i64], k: usize, e: Entry)
     requires row_room_in_bounds { row_room ≤ length rows.old }
     requires k_lt_max_entries { k < max_entries }
-    requires kind_bound { (kind < 10) × (first < 10 ^ 10) × (count < 10 ^ 10) }
-    ensures { rows.new ≡ sets rows.old (k * 4) (pos kind ∷ (pos first ∷ (pos count ∷ (bound ∷ [])))) }
+    requires numbers_bound { (number_of e.kind < 10) × (e.first < 10 ^ 10) × (e.count < 10 ^ 10) }
+    ensures { rows.new ≡ sets rows.old (k * 4) (pos (number_of e.kind) ∷ (pos e.first ∷ (pos e.count ∷ (e.bound ∷ [])))) }
 {
     let at = k * Entry::NUMBERS;
-    rows[at] = kind as i64;
-    rows[at + 1] = first as i64;
-    rows[at + 2] = count as i64;
-    rows[at + 3] = bound;
+    rows[at] = e.kind.number() as i64;
+    rows[at + 1] = e.first as i64;
+    rows[at + 2] = e.count as i64;
+    rows[at + 3] = e.bound;
 }
 
-// Clears the room of the term table.
-pub fn clear_terms(terms: &mut [i32])
-    requires { term_room ≤ length terms.old }
-    ensures { terms.new ≡ term_table [] terms.old }
+// Clears the rooms of both tables.
+pub fn clear_tables(terms: &mut [i32], rows: &mut [i64])
+    requires term_room_in_bounds { term_room ≤ length terms.old }
+    requires row_room_in_bounds { row_room ≤ length rows.old }
+    ensures terms { terms.new ≡ term_table [] terms.old }
+    ensures rows { rows.new ≡ row_table [] rows.old }
 {
-    let mut i = 0;
-    while i < Instance::TERM_ROOM {
-        terms[i] = 0;
-        i += 1;
-    }
-}
-
-// Clears the room of the row table.
-pub fn clear_rows(rows: &mut [i64])
-    requires { row_room ≤ length rows.old }
-    ensures { rows.new ≡ row_table [] rows.old }
-{
-    let mut i = 0;
-    while i < Instance::ROW_ROOM {
-        rows[i] = 0;
-        i += 1;
-    }
+    terms[..Instance::TERM_ROOM].fill(0);
+    rows[..Instance::ROW_ROOM].fill(0);
 }

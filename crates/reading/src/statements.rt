@@ -1,186 +1,133 @@
 // One statement, read from the part of the text that begins just after the last semicolon.
-ghost use Rattle.std.specs.Prelude.{◌≡◌, false, ◌^◌, ◌≤◌, ◌<◌, length, drop};
+ghost use Rattle.std.specs.Prelude.{◌^◌, ◌≤◌, ◌<◌, length};
 ghost use Rattle.instance.specs.Limits.{max_terms, term_room};
 ghost use Rattle.words.specs.declared.Place.TheVariants.{Inside};
 ghost use Rattle.words.specs.Tokens.{marks_at};
 ghost use Rattle.reading.specs.Grammar.{objective, row};
 ghost use Rattle.reading.specs.Steps.{BoundIs, Closing, StatementIs};
 
-use crate::cells::{either, is_far, wide_value};
-use crate::terms::read_terms;
-use instance::Entry;
-use words::numbers::{Number, is_min, no_number, read_number, read_relation};
-use words::{Place, Token, next_token};
+use crate::cells::is_far;
+use crate::terms::{Malformed, read_terms};
+use instance::Kind;
+use words::numbers::{is_min, read_number, read_relation};
+use words::{Place, Token, next_token, skip_blanks};
 
-// A bound, and what stands after the `;` that follows it.
-#[derive(Drop)]
-pub struct Bound {
-    pub ok: bool,
-    pub value: Number,
-    pub next: usize,
+// A bound, and the text after the `;` that follows it.
+#[derive(Clone, Copy, Debug)]
+pub struct Bound<'a> {
+    pub value: i64,
+    pub rest: &'a [u8],
 }
 
-// A statement: nothing (0), an objective (1), a row (2, 3, 4), or one that breaks the grammar (5); the count of its terms, its bound, whether
-// a number or a variable is out of range, its highest variable, and where the next statement begins.
-#[derive(Drop)]
-pub struct Statement {
-    pub kind: u64,
+// A statement: what it is, the count of its terms, its bound, whether a number or a variable is out of range, its highest variable, and the
+// text after it.
+#[derive(Clone, Copy, Debug)]
+pub struct Statement<'a> {
+    pub kind: Kind,
     pub count: usize,
     pub bound: i64,
     pub wide: bool,
     pub unnamed: bool,
     pub top: u64,
-    pub next: usize,
+    pub rest: &'a [u8],
 }
 
-impl Statement {
-    pub const NOTHING: u64 = 0;
-
-    pub const OBJECTIVE: u64 = Entry::OBJECTIVE as u64;
-
-    pub const BROKEN: u64 = 5;
-}
-
-// A statement of which only the kind is known.
-fn only(kind: u64) -> Statement
-    ensures { result.kind ≡ kind }
+// The bound and the `;` that stand first in a text.
+fn read_bound(text: &[u8]) -> Option<Bound<'_>>
+    ensures { BoundIs text.now result }
 {
-    Statement {
-        kind,
-        count: 0,
-        bound: 0,
-        wide: false,
-        unnamed: false,
-        top: 0,
-        next: 0,
-    }
-}
-
-// A bound that is not there.
-fn no_bound() -> Bound
-    ensures { result.ok ≡ false }
-{
-    let value = no_number();
-    Bound {
-        ok: false,
+    let next = next_token(text, Place::Inside)?;
+    let Token::Word(word) = next.token else {
+        return None;
+    };
+    let value = read_number(word)?;
+    let last = next_token(next.rest, Place::Inside)?;
+    let Token::Stop = last.token else {
+        return None;
+    };
+    Some(Bound {
         value,
-        next: 0,
-    }
-}
-
-// A bound and a `;` from `from` on.
-fn read_bound(text: &[u8], from: usize) -> Bound
-    requires { from ≤ length text.now }
-    ensures { BoundIs text.now from result }
-{
-    let b = next_token(text, from, Place::Inside);
-    let kind = b.kind;
-    if kind != Token::WORD {
-        return no_bound();
-    }
-    let start = b.start;
-    let end = b.end;
-    let value = read_number(&text[start..end]);
-    if !value.ok {
-        return no_bound();
-    }
-    let stop = next_token(text, end, Place::Inside);
-    let last = stop.kind;
-    if last != Token::STOP {
-        return no_bound();
-    }
-    Bound {
-        ok: true,
-        value,
-        next: stop.end,
-    }
+        rest: last.rest,
+    })
 }
 
 // After `min:`: terms, then `;`.
-fn read_objective(text: &[u8], from: usize, terms: &mut [i32], base: usize) -> Statement
-    requires from_in_bounds { from ≤ length text.now }
+fn read_objective<'a>(
+    text: &'a [u8],
+    terms: &mut [i32],
+    base: usize,
+) -> Result<Statement<'a>, Malformed>
     requires text_len_bound { length text.now < 2 ^ 32 }
     requires base_le_max_terms { base ≤ max_terms }
     requires term_room_in_bounds { term_room ≤ length terms.old }
-    ensures { Closing objective text.now (marks_at Inside (drop from text.now)) base terms.old terms.new result }
+    ensures { Closing objective (marks_at Inside text.now) (length text.now) base terms.old terms.new result }
 {
-    let run = read_terms(text, from, terms, base);
-    if !run.ok {
-        return only(Statement::BROKEN);
-    }
-    let stop = run.stop;
-    let kind = stop.kind;
-    if kind != Token::STOP {
-        return only(Statement::BROKEN);
-    }
-    Statement {
-        kind: Statement::OBJECTIVE,
+    let run = read_terms(text, terms, base)?;
+    let next = next_token(run.rest, Place::Inside).ok_or(Malformed)?;
+    let Token::Stop = next.token else {
+        return Err(Malformed);
+    };
+    Ok(Statement {
+        kind: Kind::Objective,
         count: run.count,
         bound: 0,
         wide: run.wide,
         unnamed: run.unnamed,
         top: run.top,
-        next: stop.end,
-    }
+        rest: next.rest,
+    })
 }
 
 // Terms, a relation, a bound, then `;`.
-fn read_row(text: &[u8], from: usize, terms: &mut [i32], base: usize) -> Statement
-    requires from_in_bounds { from ≤ length text.now }
+fn read_row<'a>(
+    text: &'a [u8],
+    terms: &mut [i32],
+    base: usize,
+) -> Result<Statement<'a>, Malformed>
     requires text_len_bound { length text.now < 2 ^ 32 }
     requires base_le_max_terms { base ≤ max_terms }
     requires term_room_in_bounds { term_room ≤ length terms.old }
-    ensures { Closing row text.now (marks_at Inside (drop from text.now)) base terms.old terms.new result }
+    ensures { Closing row (marks_at Inside text.now) (length text.now) base terms.old terms.new result }
 {
-    let run = read_terms(text, from, terms, base);
-    if !run.ok {
-        return only(Statement::BROKEN);
-    }
-    let stop = run.stop;
-    let last = stop.kind;
-    if last != Token::WORD {
-        return only(Statement::BROKEN);
-    }
-    let start = stop.start;
-    let end = stop.end;
-    let kind = read_relation(&text[start..end]);
-    let b = read_bound(text, end);
-    if !b.ok {
-        return only(Statement::BROKEN);
-    }
-    let value = b.value;
-    let bound = wide_value(value);
-    let wide = either(run.wide, is_far(value.size));
-    Statement {
+    let run = read_terms(text, terms, base)?;
+    let next = next_token(run.rest, Place::Inside).ok_or(Malformed)?;
+    let Token::Word(word) = next.token else {
+        return Err(Malformed);
+    };
+    let kind = read_relation(word).ok_or(Malformed)?;
+    let bound = read_bound(next.rest).ok_or(Malformed)?;
+    Ok(Statement {
         kind,
         count: run.count,
-        bound,
-        wide,
+        bound: bound.value,
+        wide: run.wide || is_far(bound.value),
         unnamed: run.unnamed,
         top: run.top,
-        next: b.next,
-    }
+        rest: bound.rest,
+    })
 }
 
-// The statement that a part of the text begins with; `place` is where the part begins in its line.
-pub fn read_statement(text: &[u8], place: Place, terms: &mut [i32], base: usize) -> Statement
+// The statement that a part of the text begins with, if any is left; `place` is where the part begins in its line.
+pub fn read_statement<'a>(
+    text: &'a [u8],
+    place: Place,
+    terms: &mut [i32],
+    base: usize,
+) -> Result<Option<Statement<'a>>, Malformed>
     requires text_len_bound { length text.now < 2 ^ 32 }
     requires base_le_max_terms { base ≤ max_terms }
     requires term_room_in_bounds { term_room ≤ length terms.old }
-    ensures { StatementIs text.now (marks_at place text.now) base terms.old terms.new result }
+    ensures { StatementIs (marks_at place text.now) (length text.now) base terms.old terms.new result }
 {
-    let t = next_token(text, 0, place);
-    let kind = t.kind;
-    if kind == Token::NONE {
-        return only(Statement::NOTHING);
+    let start = skip_blanks(text, place);
+    let Some(next) = next_token(start, Place::Inside) else {
+        return Ok(None);
+    };
+    let Token::Word(word) = next.token else {
+        return Err(Malformed);
+    };
+    if is_min(word) {
+        return Ok(Some(read_objective(next.rest, terms, base)?));
     }
-    if kind == Token::STOP {
-        return only(Statement::BROKEN);
-    }
-    let start = t.start;
-    let end = t.end;
-    if is_min(&text[start..end]) {
-        return read_objective(text, end, terms, base);
-    }
-    read_row(text, start, terms, base)
+    Ok(Some(read_row(start, terms, base)?))
 }

@@ -1,166 +1,117 @@
 // A run of terms of a statement.
 ghost use Rattle.std.specs.Prelude.{◌^◌, ◌≤◌, ◌<◌, length};
 ghost use Rattle.instance.specs.Limits.{max_terms, term_room};
-ghost use Rattle.reading.specs.Steps.{SecondIs, StepIs, RunEnd};
+ghost use Rattle.reading.specs.Steps.{SecondIs, StepIs, RunEnd, Longer};
 
-use crate::cells::{either, higher, is_unnamed, is_wide, store_term};
-use words::numbers::{Number, no_number, read_literal, read_number, read_relation};
+use crate::cells::{is_unnamed, is_wide, store_term};
+use words::numbers::{read_literal, read_number, read_relation};
 use words::{Place, Token, next_token};
 
-// What stands where a term could begin: a term, none, or a word that breaks the grammar.
-#[derive(Drop)]
-pub struct Step {
-    pub kind: u64,
-    pub coef: Number,
-    pub lit: Number,
-    pub stop: Token,
-    pub next: usize,
+// A statement breaks the grammar.
+#[derive(Clone, Copy, Debug, PartialEq, Eq)]
+pub struct Malformed;
+
+// A literal, and the text after it.
+#[derive(Clone, Copy, Debug)]
+pub struct Literal<'a> {
+    pub lit: i64,
+    pub rest: &'a [u8],
 }
 
-impl Step {
-    pub const TERM: u64 = 0;
-
-    pub const STOP: u64 = 1;
-
-    pub const BROKEN: u64 = 2;
+// A coefficient and a literal, and the text after them.
+#[derive(Clone, Copy, Debug)]
+pub struct TermRead<'a> {
+    pub coef: i64,
+    pub lit: i64,
+    pub rest: &'a [u8],
 }
 
-// The literal after a coefficient, which ends at `from`; c is the coefficient's token.
-fn read_second(text: &[u8], from: usize, coef: Number, c: Token) -> Step
-    requires { from ≤ length text.now }
-    ensures { SecondIs text.now from coef result }
+// The literal that stands first in a text, after a coefficient.
+fn read_second(text: &[u8]) -> Option<Literal<'_>>
+    ensures { SecondIs text.now result }
 {
-    let l = next_token(text, from, Place::Inside);
-    let none = no_number();
-    let kind = l.kind;
-    if kind != Token::WORD {
-        return Step {
-            kind: Step::BROKEN,
-            coef,
-            lit: none,
-            stop: c,
-            next: from,
-        };
-    }
-    let start = l.start;
-    let end = l.end;
-    let lit = read_literal(&text[start..end]);
-    if !lit.ok {
-        return Step {
-            kind: Step::BROKEN,
-            coef,
-            lit,
-            stop: c,
-            next: end,
-        };
-    }
-    Step {
-        kind: Step::TERM,
-        coef,
+    let next = next_token(text, Place::Inside)?;
+    let Token::Word(word) = next.token else {
+        return None;
+    };
+    let lit = read_literal(word)?;
+    Some(Literal {
         lit,
-        stop: c,
-        next: end,
-    }
+        rest: next.rest,
+    })
 }
 
-// The term from `at` on, or why there is none.
-pub fn read_term(text: &[u8], at: usize) -> Step
-    requires { at ≤ length text.now }
-    ensures { StepIs text.now at result }
+// The term that stands first in a text; none where a relation, a `;` or nothing stands there.
+pub fn read_term(text: &[u8]) -> Result<Option<TermRead<'_>>, Malformed>
+    ensures { StepIs text.now result }
 {
-    let c = next_token(text, at, Place::Inside);
-    let none = no_number();
-    let kind = c.kind;
-    if kind != Token::WORD {
-        return Step {
-            kind: Step::STOP,
-            coef: none,
-            lit: none,
-            stop: c,
-            next: at,
-        };
+    let Some(next) = next_token(text, Place::Inside) else {
+        return Ok(None);
+    };
+    let Token::Word(word) = next.token else {
+        return Ok(None);
+    };
+    if read_relation(word).is_some() {
+        return Ok(None);
     }
-    let start = c.start;
-    let end = c.end;
-    let word = &text[start..end];
-    if read_relation(word) != 0 {
-        return Step {
-            kind: Step::STOP,
-            coef: none,
-            lit: none,
-            stop: c,
-            next: at,
-        };
-    }
-    let coef = read_number(word);
-    if !coef.ok {
-        return Step {
-            kind: Step::BROKEN,
-            coef,
-            lit: none,
-            stop: c,
-            next: at,
-        };
-    }
-    read_second(text, end, coef, c)
+    let coef = read_number(word).ok_or(Malformed)?;
+    let second = read_second(next.rest).ok_or(Malformed)?;
+    Ok(Some(TermRead {
+        coef,
+        lit: second.lit,
+        rest: second.rest,
+    }))
 }
 
-// A run of terms: whether the grammar held, what stands after it, how many terms there are, whether a coefficient or a variable is out
-// of range, and the highest variable.
-#[derive(Drop)]
-pub struct Run {
-    pub ok: bool,
-    pub stop: Token,
+// A run of terms: how many there are, whether a coefficient or a variable is out of range, the highest variable, and the text after them.
+#[derive(Clone, Copy, Debug)]
+pub struct Run<'a> {
     pub count: usize,
     pub wide: bool,
     pub unnamed: bool,
     pub top: u64,
+    pub rest: &'a [u8],
 }
 
-// The terms from `from` on, stored from place `base` of the table on where they are in range and have room.
-pub fn read_terms(text: &[u8], from: usize, terms: &mut [i32], base: usize) -> Run
-    requires from_in_bounds { from ≤ length text.now }
+impl<'a> Run<'a> {
+    // The run with one term more.
+    fn with(self, t: TermRead<'a>) -> Run<'a>
+        requires { self.count < 2 ^ 32 }
+        ensures { Longer self.entry t.entry result }
+    {
+        Run {
+            count: self.count + 1,
+            wide: self.wide || is_wide(t.coef),
+            unnamed: self.unnamed || is_unnamed(t.lit),
+            top: self.top.max(t.lit.unsigned_abs()),
+            rest: t.rest,
+        }
+    }
+}
+
+// The terms that stand first in a text, stored from place `base` of the table on where they are in range and have room.
+pub fn read_terms<'a>(
+    text: &'a [u8],
+    terms: &mut [i32],
+    base: usize,
+) -> Result<Run<'a>, Malformed>
     requires text_len_bound { length text.now < 2 ^ 32 }
     requires base_le_max_terms { base ≤ max_terms }
     requires term_room_in_bounds { term_room ≤ length terms.old }
-    ensures { RunEnd text.now from base terms.old terms.new result }
+    ensures { RunEnd text.now base terms.old terms.new result }
 {
-    let mut at = from;
-    let mut count: usize = 0;
-    let mut wide = false;
-    let mut unnamed = false;
-    let mut top: u64 = 0;
+    let mut run = Run {
+        count: 0,
+        wide: false,
+        unnamed: false,
+        top: 0,
+        rest: text,
+    };
     loop {
-        let s = read_term(text, at);
-        let kind = s.kind;
-        let stop = s.stop;
-        if kind == Step::BROKEN {
-            return Run {
-                ok: false,
-                stop,
-                count,
-                wide,
-                unnamed,
-                top,
-            };
-        }
-        if kind == Step::STOP {
-            return Run {
-                ok: true,
-                stop,
-                count,
-                wide,
-                unnamed,
-                top,
-            };
-        }
-        let coef = s.coef;
-        let lit = s.lit;
-        store_term(terms, base + count, coef, lit);
-        wide = either(wide, is_wide(coef.size));
-        unnamed = either(unnamed, is_unnamed(lit.size));
-        top = higher(top, lit.size);
-        count += 1;
-        at = s.next;
+        let Some(t) = read_term(run.rest)? else {
+            return Ok(run);
+        };
+        store_term(terms, base + run.count, t.coef, t.lit);
+        run = run.with(t);
     }
 }

@@ -1,111 +1,82 @@
-// A verdict on each statement: the causes of its refusal in their order, and what the statements come to.
-ghost use Rattle.std.specs.Prelude.{◌≡◌, cond, eqb};
-ghost use Rattle.reading.specs.Outcomes.{place_at, late_by, full_by, verdict_by};
+// A verdict on each statement: the causes of its refusal in their order.
+ghost use Rattle.std.specs.Prelude.{◌≡◌, ◌+◌, ◌^◌, ◌<◌, eqb};
+ghost use Rattle.instance.specs.Kinds.{number_of};
+ghost use Rattle.reading.specs.Outcomes.{late_by, full_by, verdict_by, VerdictIs, OneMore};
 
+use crate::errors::ReadError;
 use crate::statements::Statement;
-use instance::Instance;
-use words::Place;
+use instance::{Instance, Kind};
 
-// What the statements come to: 0 and n, or the number of a refusal and its statement.
-#[derive(Drop)]
-pub struct Reading {
-    pub number: u64,
-    pub statement: u64,
-    pub variables: u64,
+// What was taken so far: objectives, rows, terms, and the highest variable.
+#[derive(Clone, Copy, Debug, PartialEq, Eq)]
+pub struct Taken {
+    pub objectives: usize,
+    pub rows: usize,
+    pub terms: usize,
+    pub top: u64,
 }
 
-impl Reading {
-    pub const GRAMMAR: u64 = 3;
-
-    pub const LATE_OBJECTIVE: u64 = 4;
-
-    pub const TOO_MANY: u64 = 5;
-
-    pub const OUT_OF_RANGE: u64 = 6;
-
-    pub const NO_VARIABLE: u64 = 7;
-
-    pub const TOO_MANY_TERMS: u64 = 8;
-
-    pub const NO_OBJECTIVE: u64 = 9;
-}
-
-// Where a part of the text that begins at `at` stands in its line.
-pub fn place_at(at: usize) -> Place
-    ensures { result ≡ place_at at }
-{
-    if at == 0 {
-        return Place::Start;
+impl Taken {
+    // What was taken, with statement s more.
+    pub fn with(self, s: Statement<'_>) -> Taken
+        requires few { (self.objectives < 2 ^ 32) × (self.rows < 2 ^ 32) }
+        requires terms { self.terms + s.count < 2 ^ 63 }
+        ensures { OneMore self s.entry result }
+    {
+        let one = usize::from(is_objective(s.kind));
+        Taken {
+            objectives: self.objectives + one,
+            rows: self.rows + (1 - one),
+            terms: self.terms + s.count,
+            top: self.top.max(s.top),
+        }
     }
-    Place::Inside
+}
+
+// Whether a kind is an objective's.
+pub fn is_objective(kind: Kind) -> bool
+    ensures { result ≡ eqb (number_of kind) 1 }
+{
+    matches!(kind, Kind::Objective)
 }
 
 // Whether an entry is an objective after a row.
-pub fn is_late(kind: u64, rows: usize) -> bool
-    ensures { result ≡ late_by kind rows }
+fn is_late(kind: Kind, rows: usize) -> bool
+    ensures { result ≡ late_by (number_of kind) rows }
 {
-    if kind == Statement::OBJECTIVE {
-        return 0 < rows;
-    }
-    false
+    is_objective(kind) && 0 < rows
 }
 
 // Whether an entry is a fifth objective or a 257th row.
-pub fn is_full(kind: u64, objectives: usize, rows: usize) -> bool
-    ensures { result ≡ full_by kind objectives rows }
+fn is_full(kind: Kind, objectives: usize, rows: usize) -> bool
+    ensures { result ≡ full_by (number_of kind) objectives rows }
 {
-    if kind == Statement::OBJECTIVE {
-        return Instance::MAX_OBJECTIVES <= objectives;
+    if is_objective(kind) {
+        Instance::MAX_OBJECTIVES <= objectives
+    } else {
+        Instance::MAX_ROWS <= rows
     }
-    Instance::MAX_ROWS <= rows
 }
 
-// The number of an entry's refusal, each cause in turn, or 0.
-pub fn verdict_of(late: bool, full: bool, wide: bool, unnamed: bool, terms: usize) -> u64
-    ensures { result ≡ verdict_by late full wide unnamed terms }
+// Whether statement `number` is taken after what was taken so far, or the first cause of its refusal.
+pub fn check(s: Statement<'_>, taken: Taken, number: u64) -> Result<(), ReadError>
+    requires { taken.terms + s.count < 2 ^ 63 }
+    ensures { VerdictIs (verdict_by (late_by (number_of s.entry.kind) taken.rows) (full_by (number_of s.entry.kind) taken.objectives taken.rows) s.entry.wide s.entry.unnamed (taken.terms + s.entry.count)) number result }
 {
-    if late {
-        return Reading::LATE_OBJECTIVE;
+    if is_late(s.kind, taken.rows) {
+        return Err(ReadError::LateObjective(number));
     }
-    if full {
-        return Reading::TOO_MANY;
+    if is_full(s.kind, taken.objectives, taken.rows) {
+        return Err(ReadError::TooMany(number));
     }
-    if wide {
-        return Reading::OUT_OF_RANGE;
+    if s.wide {
+        return Err(ReadError::OutOfRange(number));
     }
-    if unnamed {
-        return Reading::NO_VARIABLE;
+    if s.unnamed {
+        return Err(ReadError::NoVariable(number));
     }
-    if Instance::MAX_TERMS < terms {
-        return Reading::TOO_MANY_TERMS;
+    if Instance::MAX_TERMS < taken.terms + s.count {
+        return Err(ReadError::TooManyTerms(number));
     }
-    0
-}
-
-// 1 for an objective, 0 for a row.
-pub fn one_if_objective(kind: u64) -> usize
-    ensures { result ≡ cond (eqb kind 1) 1 0 }
-{
-    if kind == Statement::OBJECTIVE {
-        return 1;
-    }
-    0
-}
-
-// After the last statement: there must be an objective.
-pub fn finish(objectives: usize, variables: u64) -> Reading
-    ensures { (result.number ≡ cond (eqb objectives 0) 9 0) × (result.statement ≡ 0) × (result.variables ≡ variables) }
-{
-    if objectives == 0 {
-        return Reading {
-            number: Reading::NO_OBJECTIVE,
-            statement: 0,
-            variables,
-        };
-    }
-    Reading {
-        number: 0,
-        statement: 0,
-        variables,
-    }
+    Ok(())
 }

@@ -2,3 +2,4 @@
 pub mod ByteLaws
 pub mod MarkLaws
 pub mod NumberLaws
+pub mod TokenLaws

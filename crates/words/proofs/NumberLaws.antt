@@ -2,7 +2,9 @@
 use mathlib.Core.Path.{◌≡◌, refl, sym, ap, ◌∙◌, subst}
 use mathlib.Core.Bool.{Bool, true, false, cond, ◌&&◌}
 use mathlib.Core.List.{List, [], ◌∷◌}
-use Rattle.std.specs.Prelude.{Option, None, Some}
+use Rattle.std.specs.Prelude.{Option, None, Some, is_some}
+use lib.Dec.{T}
+use Rattle.instance.specs.declared.kinds.Kind.{Kind}
 use Prim.Native.Nat.{ℕ, suc, ◌-◌, ◌^◌, ◌≤◌, ◌<◌}
 use native.Mathlib.Omega.{arith}
 use lib.Dec.{eqb}
@@ -16,6 +18,7 @@ use mir.Syntax.{w64}
 use mir.Val.{SFits, to_z, of_z}
 use Rattle.integers.proofs.SignedLaws.{fits-as, read_as, sfits-abs, bits-value, abs_neg}
 use Rattle.decimal.proofs.NumeralLaws.{read-less}
+use Rattle.words.specs.Answers.{RelationIs}
 use Rattle.words.specs.Numbers.{sign_of, digits, number, negated, literal, relation, is_min}
 
 -- what is left of a word after k bytes, as a part of a slice
@@ -121,3 +124,14 @@ literal-negated (b ∷ []) h n e m = absurd (omega arith)
 literal-negated (b ∷ (d ∷ w)) h n e m =
     literal-other b (d ∷ w) n ∙ ap (λ (t : Bool). cond t (negated (d ∷ w)) None) (eq-eqb b 126 e) ∙ ap (λ (t : Bool). cond t (digits true w) None) (eq-eqb d 120 m)
     ∙ ap (digits true) (sym (rest-two b d w))
+
+-- ---- relation
+
+-- a word that stands for a kind of row, and one that does not
+pub relation-some : (w : List ℕ) (r : Option Kind) → RelationIs w r → is_some r ≡ true → relation w ≡ 0 → ⊥
+relation-some w (Some k) e h = e.1
+relation-some w None e h = absurd (subst T (sym h) tt)
+
+pub relation-none : (w : List ℕ) (r : Option Kind) → RelationIs w r → is_some r ≡ false → relation w ≡ 0
+relation-none w None e h = e
+relation-none w (Some k) e h = absurd (subst T h tt)

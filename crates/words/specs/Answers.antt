@@ -8,6 +8,7 @@ use Rattle.words.specs.declared.tokens.Token.{Token}
 use Rattle.words.specs.declared.tokens.Token.TheVariants.{Word, Stop}
 use Rattle.words.specs.declared.tokens.Next.{Next}
 use Rattle.words.specs.Bytes.{is_blank, is_plain}
+use Rattle.words.specs.Numbers.{relation}
 use Rattle.words.specs.Tokens.{Mark, word, stop, marks_at}
 
 -- r has the marks that a text has at a place, and does not begin with a blank.
@@ -32,7 +33,7 @@ abbrev pub NextToken : List ℕ → Place → Option Next → Type 0
 NextToken text p None = marks_at p text ≡ []
 NextToken text p (Some n) = (marks_at p text ≡ mark_of n.token ∷ marks_at Inside n.rest.now) × (length n.rest.now < length text)
 
--- The number of a relation's kind, 0 for a word that is none.
-abbrev pub relation_number : Option Kind → ℕ
-relation_number None = 0
-relation_number (Some k) = number_of k
+-- A word is no relation; or it stands for a kind of row.
+abbrev pub RelationIs : List ℕ → Option Kind → Type 0
+RelationIs w None = relation w ≡ 0
+RelationIs w (Some k) = (number_of k ≡ relation w) × (relation w ≡ 0 → ⊥)

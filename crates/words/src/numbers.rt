@@ -1,7 +1,7 @@
 // What a word says: a number, a literal, a relation, `min:`.
 ghost use Rattle.std.specs.Prelude.{◌≡◌};
-ghost use Rattle.words.specs.Numbers.{digits, number, literal, relation, is_min};
-ghost use Rattle.words.specs.Answers.{relation_number};
+ghost use Rattle.words.specs.Numbers.{digits, number, literal, is_min};
+ghost use Rattle.words.specs.Answers.{RelationIs};
 
 use decimal::read_numeral;
 use instance::Kind;
@@ -39,7 +39,7 @@ pub fn read_literal(word: &[u8]) -> Option<i64>
 
 // The kind of row that a word stands for: `>=`, `<=`, `=`, and none for any other word.
 pub fn read_relation(word: &[u8]) -> Option<Kind>
-    ensures { relation_number result ≡ relation word.now }
+    ensures { RelationIs word.now result }
 {
     match word {
         b">=" => Some(Kind::AtLeast),

@@ -1,13 +1,34 @@
 -- By where the run of terms stops: only a `;` ends an objective.
-use borrow.Author.Tests.{not-true, not-false}
-use Rattle.reading.proofs.ClosingLaws.{objective-unread, objective-open, objective-done}
+use borrow.Author.Rules.{rules}
+use mathlib.Core.Path.{◌≡◌, refl}
+use Rattle.std.specs.Prelude.{None, Some}
+use Rattle.std.proofs.lemmas.Result.{err_from_is_err_and}
+use Rattle.words.specs.declared.Place.TheVariants.{Inside}
+use Rattle.words.proofs.TokenLaws.{token-none, token-some, token-word, token-stop}
+use Rattle.reading.proofs.ClosingLaws.{objective-end, objective-word, objective-done}
+use Rattle.reading.proofs.StepLaws.{stopped}
 use Rattle.reading.proofs.statements.read_objective.Goals as goal
 
-pub returns-then-not-run : goal.returns-then-not-run
-returns-then-not-run c = objective-unread c.read_terms-run.ensures (not-true _ c.if-not-run.true) c.only.result c.only.ensures
+pub returns-in_err-next : goal.returns-in_err-next
+returns-in_err-next c =
+    let p = err_from_is_err_and c.from_residual-in_err-next.result c.from_residual-in_err-next.ensures.1 in
+    let n : c.next_token.result ≡ None = search rules in
+    rw p.1 (record { kept = c.read_terms.ensures.kept; closes = objective-end (c.in_ok-run.ensures).run.0 (token-none c.in_ok-run.run'.rest.now Inside c.next_token.ensures n) })
 
-pub returns-then-kind-ne-STOP : goal.returns-then-kind-ne-STOP
-returns-then-kind-ne-STOP c = objective-open c.read_terms-run.ensures (not-false _ c.if-not-run.false) c.if-kind-ne-STOP.true c.only-then-kind-ne-STOP.result c.only-then-kind-ne-STOP.ensures
+pub returns-in_default : goal.returns-in_default
+returns-in_default c =
+    let n : c.next_token.result ≡ Some c.in_ok-next.next = search rules in
+    let t = token-word (token-some c.in_ok-run.run'.rest.now Inside c.next_token.ensures n).0 c.in_default.is in
+    record {
+      kept = c.read_terms.ensures.kept;
+      closes = λ _. objective-word (c.in_ok-run.ensures).run.0 t (stopped t (c.in_ok-run.ensures).run.1);
+    }
 
 pub returns : goal.returns
-returns c = objective-done c.read_terms-run.ensures (not-false _ c.if-not-run.false) c.if-kind-ne-STOP.false
+returns c =
+    let n : c.next_token.result ≡ Some c.in_ok-next.next = search rules in
+    let t = token-some c.in_ok-run.run'.rest.now Inside c.next_token.ensures n in
+    record {
+      kept = c.read_terms.ensures.kept;
+      closes = objective-done (c.in_ok-run.ensures).run.0 (token-stop t.0 c.in-Stop.is) _ refl t.1 refl refl refl refl refl refl;
+    }

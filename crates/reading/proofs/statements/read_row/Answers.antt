@@ -1,30 +1,59 @@
 -- By where the run of terms stops: only a relation goes on, with a bound and a `;`.
-use mir.Facts.{to_z-of_z}
+use borrow.Author.Rules.{rules}
+use mathlib.Core.Path.{◌≡◌, refl, subst}
+use Rattle.std.specs.Prelude.{None, Some}
+use Rattle.std.proofs.lemmas.Result.{err_from_is_err_and}
+use mathlib.Core.Bool.{◌||◌}
+use lib.Dec.{ltb}
+use lib.IntN.{nat_abs}
 use mir.Syntax.{w64}
-use mathlib.Core.Path.{ap, ◌∙◌}
-use mathlib.Core.Bool.{Bool, ◌||◌}
-use native.Mathlib.Omega.{arith}
-use borrow.Author.Tests.{not-true, not-false}
-use Rattle.reading.proofs.ClosingLaws.{row-unread, row_open, row-unbound, row_done, run-stops}
+use mir.Val.{to_z, of_z}
+use Rattle.instance.specs.Limits.{max_bound}
+use Rattle.words.specs.Answers.{RelationIs}
+use Rattle.words.specs.declared.Place.TheVariants.{Inside}
+use Rattle.words.proofs.TokenLaws.{token-none, token-some, token-word, token-stop}
+use Rattle.reading.specs.Steps.{BoundIs}
+use Rattle.reading.proofs.ClosingLaws.{row-end-none, row-stop, row-unbound, row_done}
+use Rattle.reading.proofs.StepLaws.{stopped}
 use Rattle.reading.proofs.statements.read_row.Goals as goal
 
-pub returns-then-not-run : goal.returns-then-not-run
-returns-then-not-run c = row-unread c.read_terms-run.ensures (not-true _ c.if-not-run.true) c.only.result c.only.ensures
+pub returns-in_err-next : goal.returns-in_err-next
+returns-in_err-next c =
+    let p = err_from_is_err_and c.from_residual-in_err-next.result c.from_residual-in_err-next.ensures.1 in
+    let n : c.next_token.result ≡ None = search rules in
+    rw p.1 (record { kept = c.read_terms.ensures.kept; closes = row-end-none (c.in_ok-run.ensures).run.0 (token-none c.in_ok-run.run'.rest.now Inside c.next_token.ensures n) })
 
-pub returns-then-last-ne-WORD : goal.returns-then-last-ne-WORD
-returns-then-last-ne-WORD c = row_open c.read_terms-run.ensures (not-false _ c.if-not-run.false) c.if-last-ne-WORD.true c.only-then-last-ne-WORD.result c.only-then-last-ne-WORD.ensures
+pub returns-in_default : goal.returns-in_default
+returns-in_default c =
+    let n : c.next_token.result ≡ Some c.in_ok-next.next = search rules in
+    record {
+      kept = c.read_terms.ensures.kept;
+      closes = λ _. row-stop (c.in_ok-run.ensures).run.0 (token-stop (token-some c.in_ok-run.run'.rest.now Inside c.next_token.ensures n).0 c.in_default.is);
+    }
 
-pub slice_bounds-read_relation-count : goal.slice_bounds-read_relation-count
-slice_bounds-read_relation-count c = omega (arith, (run-stops c.read_terms-run.ensures (not-false _ c.if-not-run.false)).0)
-
-pub read_bound-b-requires : goal.read_bound-b-requires
-read_bound-b-requires c = (run-stops c.read_terms-run.ensures (not-false _ c.if-not-run.false)).1
-
-pub returns-then-not-b : goal.returns-then-not-b
-returns-then-not-b c = row-unbound c.read_terms-run.ensures (not-false _ c.if-not-run.false) c.if-last-ne-WORD.false c.read_bound-b.ensures (not-true _ c.if-not-b.true) c.only-then-not-b.result c.only-then-not-b.ensures
-
-pub wide_value-bound-requires : goal.wide_value-bound-requires
-wide_value-bound-requires c = (c.read_bound-b.ensures.yes_bound (not-false _ c.if-not-b.false)).small
+pub returns-in_err-bound : goal.returns-in_err-bound
+returns-in_err-bound c =
+    let p = err_from_is_err_and c.from_residual-in_err-bound.result c.from_residual-in_err-bound.ensures.1 in
+    let n : c.next_token.result ≡ Some c.in_ok-next.next = search rules in
+    let b : c.read_bound.result ≡ None = search rules in
+    let t = token-word (token-some c.in_ok-run.run'.rest.now Inside c.next_token.ensures n).0 c.in-Word.is in
+    rw p.1 (record {
+      kept = c.read_terms.ensures.kept;
+      closes = row-unbound (c.in_ok-run.ensures).run.0 t (stopped t (c.in_ok-run.ensures).run.1) (subst (BoundIs c.in_ok-next.next.rest.now) b c.read_bound.ensures);
+    })
 
 pub returns : goal.returns
-returns c = row_done c.read_terms-run.ensures (not-false _ c.if-not-run.false) c.if-last-ne-WORD.false (c.read_bound-b.ensures.yes_bound (not-false _ c.if-not-b.false)) c.read_relation-kind.ensures (to_z-of_z {w = w64} (record { sfits = c.wide_value-bound.type_inv }) ∙ c.wide_value-bound.ensures) (c.either-wide.ensures ∙ ap (λ (b : Bool). c.read_terms-run.result.wide || b) c.is_far.ensures)
+returns c =
+    let v : to_z w64 (of_z w64 c.in_ok-bound.bound.value) ≡ c.in_ok-bound.bound.value = search rules in
+    let f : c.if-run.result ≡ c.in_ok-run.run'.wide || ltb max_bound (nat_abs c.in_ok-bound.bound.value) = search rules in
+    let n : c.next_token.result ≡ Some c.in_ok-next.next = search rules in
+    let b : c.read_bound.result ≡ Some c.in_ok-bound.bound = search rules in
+    let k : c.read_relation.result ≡ Some c.in_ok-kind.kind = search rules in
+    let t = token-some c.in_ok-run.run'.rest.now Inside c.next_token.ensures n in
+    let w = token-word t.0 c.in-Word.is in
+    record {
+      kept = c.read_terms.ensures.kept;
+      closes = row_done (c.in_ok-run.ensures).run.0 w (stopped w (c.in_ok-run.ensures).run.1) refl t.1 c.in_ok-bound.bound
+          (subst (BoundIs c.in_ok-next.next.rest.now) b c.read_bound.ensures) _ refl
+          (subst (RelationIs c.in-Word.word.now) k c.read_relation.ensures).0 refl v f refl refl;
+    }

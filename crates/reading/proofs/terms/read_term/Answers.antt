@@ -1,19 +1,22 @@
 -- By the token: no word or a relation stops the terms, a word that is no number breaks the grammar, else read_second decides.
-use mathlib.Core.Path.{sym, ◌∙◌}
-use native.Mathlib.Omega.{arith}
-use borrow.Author.Tests.{not-true, not-false}
-use Rattle.words.proofs.TokenLaws.{says_none, says_some}
-use Rattle.reading.proofs.StepLaws.{bad-first, term_is}
+use borrow.Author.Rules.{rules}
+use mathlib.Core.Path.{◌≡◌, sym, ◌∙◌, subst}
+use Rattle.std.specs.Prelude.{None}
+use Rattle.std.proofs.lemmas.Result.{err_from_is_err_and}
+use Rattle.words.specs.Numbers.{number, relation}
+use Rattle.words.proofs.TokenLaws.{token-word, token-stop}
+use Rattle.words.proofs.NumberLaws.{relation-some, relation-none}
+use Rattle.reading.specs.Steps.{StepIs}
+use Rattle.reading.proofs.StepLaws.{first-bad, stops-word}
+use Rattle.reading.proofs.terms.read_term.Goals.{Then-is_some, Else-is_some}
 use Rattle.reading.proofs.terms.read_term.Goals as goal
 
-pub returns-then-kind-ne-WORD : goal.returns-then-kind-ne-WORD
-returns-then-kind-ne-WORD c = record { kind_most = omega arith; term = λ e. absurd (omega arith); stop = λ _. record { next = c.next_token-c.ensures; relation_some = λ e _. c.if-kind-ne-WORD.true e }; broken = λ e. absurd (omega arith) }
+pub returns-then-is_some : goal.returns-then-is_some
+returns-then-is_some c = stops-word (token-word (c.in-Some.ensures).0 c.in-Word.is) (relation-some c.in-Word.word.now c.read_relation.result c.read_relation.ensures (sym c.is_some.ensures ∙ c.if-is_some.true))
 
-pub returns-then-read_relation-ne0 : goal.returns-then-read_relation-ne0
-returns-then-read_relation-ne0 c = record { kind_most = omega arith; term = λ e. absurd (omega arith); stop = λ _. record { next = c.next_token-c.ensures; relation_some = λ _ e. c.if-read_relation-ne0.true (c.read_relation.ensures ∙ e) }; broken = λ e. absurd (omega arith) }
-
-pub returns-then-not-coef : goal.returns-then-not-coef
-returns-then-not-coef c = record { kind_most = omega arith; term = λ e. absurd (omega arith); stop = λ e. absurd (omega arith); broken = λ _. bad-first c.next_token-c.ensures c.if-kind-ne-WORD.false (sym c.read_relation.ensures ∙ c.if-read_relation-ne0.false) (says_none c.read_number-coef.ensures (not-true _ c.if-not-coef.true)) }
-
-pub returns : goal.returns
-returns c = term_is c.next_token-c.ensures c.if-kind-ne-WORD.false (sym c.read_relation.ensures ∙ c.if-read_relation-ne0.false) c.read_number-coef.result (says_some c.read_number-coef.ensures (not-false _ c.if-not-coef.false)) c.read_number-coef.ensures.small c.read_second.result c.read_second.ensures
+pub returns-in_err-coef : goal.returns-in_err-coef
+returns-in_err-coef c =
+    let p = err_from_is_err_and c.from_residual.result c.from_residual.ensures.1 in
+    let r = relation-none c.in-Word.word.now c.read_relation.result c.read_relation.ensures (sym c.is_some.ensures ∙ c.if-is_some.false) in
+    let n : number c.in-Word.word.now ≡ None = search rules in
+    rw p.1 (first-bad (token-word (c.in-Some.ensures).0 c.in-Word.is) r n)

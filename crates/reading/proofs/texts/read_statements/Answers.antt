@@ -1,81 +1,64 @@
-use mathlib.Core.Path.{refl, sym, ap, ◌∙◌}
-use Prim.Native.Nat.{◌+◌}
+use borrow.Author.Rules.{rules}
+use mathlib.Core.Path.{◌≡◌, refl, sym, ap, ◌∙◌, subst}
 use native.Mathlib.Omega.{arith}
-use lib.ListN.{length, length-drop}
-use Rattle.reading.proofs.ReadLaws.{taking-start, part-drop, statement-at, taking-total, taking-terms, taking-rows, taking-end, taking-broken, verdict-is, taking-refused}
-use Rattle.reading.proofs.TakeLaws.{entries-room, bound-stored, taking_step}
-use mathlib.Core.Path.{ap₂}
-use mathlib.Core.Bool.{Bool}
-use lib.Dec.{eqb}
-use Rattle.reading.specs.Outcomes.{verdict_by}
-use Rattle.reading.proofs.VerdictLaws.{one-le}
+use mathlib.Core.List.{[], ◌∷◌}
+use Prim.Native.Nat.{◌+◌, ◌*◌}
+use lib.IntN.{pos}
+use lib.ListN.{length}
+use lib.Seq.{sets}
+use Rattle.instance.specs.Kinds.{number_of}
+use Rattle.std.specs.Prelude.{Option, Result, Ok, Err, None, Some}
+use Rattle.std.proofs.lemmas.Result.{err_from_is_err_and}
+use Rattle.words.specs.Tokens.{marks_at}
+use Rattle.reading.specs.declared.terms.Malformed.{Malformed}
+use Rattle.reading.specs.declared.statements.Statement.{Statement}
+use Rattle.reading.specs.Grammar.{statement}
+use Rattle.reading.specs.Steps.{Begins, EntryRead}
+use Rattle.reading.specs.Outcomes.{VerdictIs}
+use Rattle.reading.proofs.ReadLaws.{taking-start, taking-total, taking-terms, taking-rows, taking-none, taking-done, taking-broken, taking-refused, verdict-is}
+use Rattle.reading.proofs.TakeLaws.{entries-room, taking_step}
+use Rattle.reading.proofs.texts.read_statements.Goals.{After-read_statement, In-Some}
 use Rattle.reading.proofs.texts.read_statements.Goals as goal
 
-pub loop-st-init : goal.loop-st-init
-loop-st-init c = taking-start c.args.text.now c.args.terms.now c.args.rows.now (c.requires.terms_value) (c.requires.rows_value)
+-- What the statement begins with, where its answer is known.
+begun : (c : After-read_statement) {r : Result (Option Statement) Malformed} → c.read_statement.result ≡ r
+    → Begins (marks_at c.loop-next.place c.loop-next.rest.now) (length c.loop-next.rest.now) c.loop-next.taken.terms c.loop-next.terms c.read_statement.new.terms r
+begun c e = subst (Begins (marks_at c.loop-next.place c.loop-next.rest.now) (length c.loop-next.rest.now) c.loop-next.taken.terms c.loop-next.terms c.read_statement.new.terms) e c.read_statement.ensures.begins
 
-pub slice_bounds-read_statement-count : goal.slice_bounds-read_statement-count
-slice_bounds-read_statement-count c = omega (arith, c.loop-st.invariant.inside)
+entry : (c : In-Some) → EntryRead statement (marks_at c.loop-next.place c.loop-next.rest.now) (length c.loop-next.rest.now) c.loop-next.taken.terms c.loop-next.terms c.read_statement.new.terms c.in-Some.s
+entry c = subst (Begins (marks_at c.loop-next.place c.loop-next.rest.now) (length c.loop-next.rest.now) c.loop-next.taken.terms c.loop-next.terms c.read_statement.new.terms) (c.in-Ok.is ∙ ap Ok c.in-Some.is) c.read_statement.ensures.begins
 
-pub read_statement-st-requires : goal.read_statement-st-requires
-read_statement-st-requires c = record { text_len_bound = omega (arith, ap length (part-drop c.args.text.now c.loop-st.at), length-drop c.loop-st.at c.args.text.now, c.requires.text_len_bound); base_le_max_terms = taking-total c.loop-st.invariant; term_room_in_bounds = omega (arith, taking-terms c.loop-st.invariant c.requires.term_room_in_bounds, c.requires.term_room_in_bounds) }
+pub loop-next-init : goal.loop-next-init
+loop-next-init c = taking-start c.args.text.now c.args.terms.now c.args.rows.now c.requires.terms_value c.requires.rows_value
 
-pub shape_of-terms-then-kind-eq-NOTHING : goal.shape_of-terms-then-kind-eq-NOTHING
-shape_of-terms-then-kind-eq-NOTHING c = c.read_statement-st.auto.terms ∙ taking-terms c.loop-st.invariant c.requires.term_room_in_bounds
+pub returns-in_default : goal.returns-in_default
+returns-in_default c =
+    let b = begun (goal.at.returns-in_default c).After-read_statement c.in_default.is in
+    taking-broken c.loop-next.invariant c.read_statement.ensures.kept b.0 b.1
 
-pub shape_of-rows-then-kind-eq-NOTHING : goal.shape_of-rows-then-kind-eq-NOTHING
-shape_of-rows-then-kind-eq-NOTHING c = taking-rows c.loop-st.invariant c.requires.row_room_in_bounds
+pub returns-in_err-check : goal.returns-in_err-check
+returns-in_err-check c =
+    let p = err_from_is_err_and c.from_residual.result c.from_residual.ensures.1 in
+    let e = entry (goal.at.returns-in_err-check c).In-Some in
+    let f : c.check.result ≡ Err c.in_err-check.field-0.0 = search rules in
+    let v = subst (VerdictIs _ c.loop-next.number) f c.check.ensures in
+    rw (p.1, p.2) (taking-refused c.loop-next.invariant e c.read_statement.ensures.kept _ v.0 (verdict-is c.loop-next.invariant e) v.1)
 
-pub returns-then-kind-eq-NOTHING : goal.returns-then-kind-eq-NOTHING
-returns-then-kind-eq-NOTHING c = taking-end c.loop-st.invariant ((statement-at c.args.text.now c.loop-st.at c.place_at.ensures c.read_statement-st.ensures).nothing c.if-kind-eq-NOTHING.true).1 ((statement-at c.args.text.now c.loop-st.at c.place_at.ensures c.read_statement-st.ensures).nothing c.if-kind-eq-NOTHING.true).0 c.finish.result c.finish.ensures
+pub loop-next-preserved : goal.loop-next-preserved
+loop-next-preserved c =
+    let e = entry (goal.at.loop-next-preserved c).In-Some in
+    let f : c.check.result ≡ Ok tt = search rules in
+    let v = sym (verdict-is c.loop-next.invariant e) ∙ subst (VerdictIs _ c.loop-next.number) f c.check.ensures in
+    let r : c.store_entry.new.rows ≡ sets c.loop-next.rows ((c.loop-next.taken.objectives + c.loop-next.taken.rows) * 4)
+        (pos (number_of c.in-Some.s.kind) ∷ (pos c.loop-next.taken.terms ∷ (pos c.in-Some.s.count ∷ (c.in-Some.s.bound ∷ [])))) = search rules in
+    taking_step c.loop-next.invariant e v c.requires.row_room_in_bounds r c.with-taken.result c.with-taken.ensures
 
-pub shape_of-terms-then-kind-eq-BROKEN : goal.shape_of-terms-then-kind-eq-BROKEN
-shape_of-terms-then-kind-eq-BROKEN c = c.read_statement-st.auto.terms ∙ taking-terms c.loop-st.invariant c.requires.term_room_in_bounds
+pub returns-then-taken-eq0 : goal.returns-then-taken-eq0
+returns-then-taken-eq0 c =
+    let b = begun (goal.at.returns-then-taken-eq0 c).After-read_statement (c.in-Ok.is ∙ ap Ok c.in_default-next.is) in
+    taking-none c.loop-next.invariant b.1 b.0 c.if-taken-eq0.true
 
-pub shape_of-rows-then-kind-eq-BROKEN : goal.shape_of-rows-then-kind-eq-BROKEN
-shape_of-rows-then-kind-eq-BROKEN c = taking-rows c.loop-st.invariant c.requires.row_room_in_bounds
-
-pub returns-then-kind-eq-BROKEN : goal.returns-then-kind-eq-BROKEN
-returns-then-kind-eq-BROKEN c = taking-broken c.loop-st.invariant (statement-at c.args.text.now c.loop-st.at c.place_at.ensures c.read_statement-st.ensures) c.if-kind-eq-BROKEN.true (record { number = 3; statement = c.loop-st.number; variables = 0 }) refl refl
-
-pub overflow_add-total : goal.overflow_add-total
-overflow_add-total c = omega (arith, taking-total c.loop-st.invariant, (((statement-at c.args.text.now c.loop-st.at c.place_at.ensures c.read_statement-st.ensures).closing c.if-kind-eq-NOTHING.false).entry_read c.if-kind-eq-BROKEN.false).few, length-drop c.loop-st.at c.args.text.now, c.requires.text_len_bound)
-
-pub shape_of-terms-then-refusal-ne0 : goal.shape_of-terms-then-refusal-ne0
-shape_of-terms-then-refusal-ne0 c = c.read_statement-st.auto.terms ∙ taking-terms c.loop-st.invariant c.requires.term_room_in_bounds
-
-pub shape_of-rows-then-refusal-ne0 : goal.shape_of-rows-then-refusal-ne0
-shape_of-rows-then-refusal-ne0 c = taking-rows c.loop-st.invariant c.requires.row_room_in_bounds
-
-pub returns-then-refusal-ne0 : goal.returns-then-refusal-ne0
-returns-then-refusal-ne0 c = taking-refused c.loop-st.invariant (((statement-at c.args.text.now c.loop-st.at c.place_at.ensures c.read_statement-st.ensures).closing c.if-kind-eq-NOTHING.false).entry_read c.if-kind-eq-BROKEN.false) (statement-at c.args.text.now c.loop-st.at c.place_at.ensures c.read_statement-st.ensures).kept (record { number = c.verdict_of-refusal.result; statement = c.loop-st.number; variables = 0 }) c.if-refusal-ne0.true (c.verdict_of-refusal.ensures ∙ ap₂ (λ (a b : Bool). verdict_by a b c.read_statement-st.result.wide c.read_statement-st.result.unnamed (c.loop-st.total + c.read_statement-st.result.count)) c.is_late-late.ensures c.is_full-full.ensures ∙ verdict-is c.loop-st.invariant (((statement-at c.args.text.now c.loop-st.at c.place_at.ensures c.read_statement-st.ensures).closing c.if-kind-eq-NOTHING.false).entry_read c.if-kind-eq-BROKEN.false)) refl
-
-pub overflow_add-objectives : goal.overflow_add-objectives
-overflow_add-objectives c = omega (arith, c.loop-st.invariant.objectives_is, c.loop-st.invariant.others_is, c.loop-st.invariant.few_objectives, c.loop-st.invariant.few_rows)
-
-pub store_entry-requires : goal.store_entry-requires
-store_entry-requires c = record { row_room_in_bounds = omega (arith, taking-rows c.loop-st.invariant c.requires.row_room_in_bounds, c.requires.row_room_in_bounds); k_lt_max_entries = entries-room c.loop-st.invariant (((statement-at c.args.text.now c.loop-st.at c.place_at.ensures c.read_statement-st.ensures).closing c.if-kind-eq-NOTHING.false).entry_read c.if-kind-eq-BROKEN.false) (sym (c.verdict_of-refusal.ensures ∙ ap₂ (λ (a b : Bool). verdict_by a b c.read_statement-st.result.wide c.read_statement-st.result.unnamed (c.loop-st.total + c.read_statement-st.result.count)) c.is_late-late.ensures c.is_full-full.ensures ∙ verdict-is c.loop-st.invariant (((statement-at c.args.text.now c.loop-st.at c.place_at.ensures c.read_statement-st.ensures).closing c.if-kind-eq-NOTHING.false).entry_read c.if-kind-eq-BROKEN.false)) ∙ c.if-refusal-ne0.false); kind_bound = (omega (arith, (((statement-at c.args.text.now c.loop-st.at c.place_at.ensures c.read_statement-st.ensures).closing c.if-kind-eq-NOTHING.false).entry_read c.if-kind-eq-BROKEN.false).kind_most), omega (arith, taking-total c.loop-st.invariant), omega (arith, (((statement-at c.args.text.now c.loop-st.at c.place_at.ensures c.read_statement-st.ensures).closing c.if-kind-eq-NOTHING.false).entry_read c.if-kind-eq-BROKEN.false).few, length-drop c.loop-st.at c.args.text.now, c.requires.text_len_bound)) }
-
-pub overflow_add-objectives-in-loop-st : goal.overflow_add-objectives-in-loop-st
-overflow_add-objectives-in-loop-st c = omega (arith, c.loop-st.invariant.objectives_is, c.loop-st.invariant.few_objectives, c.one_if_objective-one.ensures, one-le (eqb c.read_statement-st.result.kind 1))
-
-pub overflow_sub-others : goal.overflow_sub-others
-overflow_sub-others c = omega (arith, c.one_if_objective-one.ensures, one-le (eqb c.read_statement-st.result.kind 1))
-
-pub overflow_add-others : goal.overflow_add-others
-overflow_add-others c = omega (arith, c.loop-st.invariant.others_is, c.loop-st.invariant.few_rows)
-
-pub overflow_add-total-in-loop-st : goal.overflow_add-total-in-loop-st
-overflow_add-total-in-loop-st c = omega (arith, taking-total c.loop-st.invariant, (((statement-at c.args.text.now c.loop-st.at c.place_at.ensures c.read_statement-st.ensures).closing c.if-kind-eq-NOTHING.false).entry_read c.if-kind-eq-BROKEN.false).few, length-drop c.loop-st.at c.args.text.now, c.requires.text_len_bound)
-
-pub overflow_add-at : goal.overflow_add-at
-overflow_add-at c = omega (arith, (((statement-at c.args.text.now c.loop-st.at c.place_at.ensures c.read_statement-st.ensures).closing c.if-kind-eq-NOTHING.false).entry_read c.if-kind-eq-BROKEN.false).low, (((statement-at c.args.text.now c.loop-st.at c.place_at.ensures c.read_statement-st.ensures).closing c.if-kind-eq-NOTHING.false).entry_read c.if-kind-eq-BROKEN.false).high, length-drop c.loop-st.at c.args.text.now, c.loop-st.invariant.inside, c.requires.text_len_bound)
-
-pub overflow_add-number : goal.overflow_add-number
-overflow_add-number c = omega (arith, c.loop-st.invariant.few_statements, c.loop-st.invariant.inside, c.requires.text_len_bound)
-
-pub loop-st-smaller : goal.loop-st-smaller
-loop-st-smaller c = omega (arith, (((statement-at c.args.text.now c.loop-st.at c.place_at.ensures c.read_statement-st.ensures).closing c.if-kind-eq-NOTHING.false).entry_read c.if-kind-eq-BROKEN.false).low, (((statement-at c.args.text.now c.loop-st.at c.place_at.ensures c.read_statement-st.ensures).closing c.if-kind-eq-NOTHING.false).entry_read c.if-kind-eq-BROKEN.false).high, length-drop c.loop-st.at c.args.text.now, c.loop-st.invariant.inside)
-
-pub loop-st-preserved : goal.loop-st-preserved
-loop-st-preserved c = taking_step c.loop-st.invariant (((statement-at c.args.text.now c.loop-st.at c.place_at.ensures c.read_statement-st.ensures).closing c.if-kind-eq-NOTHING.false).entry_read c.if-kind-eq-BROKEN.false) (sym (c.verdict_of-refusal.ensures ∙ ap₂ (λ (a b : Bool). verdict_by a b c.read_statement-st.result.wide c.read_statement-st.result.unnamed (c.loop-st.total + c.read_statement-st.result.count)) c.is_late-late.ensures c.is_full-full.ensures ∙ verdict-is c.loop-st.invariant (((statement-at c.args.text.now c.loop-st.at c.place_at.ensures c.read_statement-st.ensures).closing c.if-kind-eq-NOTHING.false).entry_read c.if-kind-eq-BROKEN.false)) ∙ c.if-refusal-ne0.false) c.requires.row_room_in_bounds (bound-stored c.loop-st.invariant (((statement-at c.args.text.now c.loop-st.at c.place_at.ensures c.read_statement-st.ensures).closing c.if-kind-eq-NOTHING.false).entry_read c.if-kind-eq-BROKEN.false) (sym (c.verdict_of-refusal.ensures ∙ ap₂ (λ (a b : Bool). verdict_by a b c.read_statement-st.result.wide c.read_statement-st.result.unnamed (c.loop-st.total + c.read_statement-st.result.count)) c.is_late-late.ensures c.is_full-full.ensures ∙ verdict-is c.loop-st.invariant (((statement-at c.args.text.now c.loop-st.at c.place_at.ensures c.read_statement-st.ensures).closing c.if-kind-eq-NOTHING.false).entry_read c.if-kind-eq-BROKEN.false)) ∙ c.if-refusal-ne0.false) c.store_entry.ensures) c.one_if_objective-one.ensures c.higher-top.ensures
+pub returns : goal.returns
+returns c =
+    let b = begun (goal.at.returns c).After-read_statement (c.in-Ok.is ∙ ap Ok c.in_default-next.is) in
+    taking-done c.loop-next.invariant b.1 b.0 c.if-taken-eq0.false
