@@ -1,38 +1,44 @@
 // Statements as text: an objective or a row (document 01, 'Written text').
 ghost use Rattle.std.specs.Prelude.{◌≡◌, ◌+◌, ◌*◌, ◌≤◌, length};
 ghost use Rattle.decimal.specs.Bytes.{overwrite};
+ghost use Rattle.instance.specs.Kinds.{number_of};
 ghost use Rattle.instance.specs.Structs.{entry_of};
 ghost use Rattle.writing.specs.Limits.{max_written};
 ghost use Rattle.writing.specs.Writing.{head_text, relation_text, bound_text, statement_text};
 
 use crate::terms::{put_terms, terms_len};
-use instance::Entry;
+use decimal::{integer_len, put_byte, put_bytes, put_integer};
+use instance::{Entry, Kind};
 
-// The length of what stands before the terms.
-fn head_len(kind: usize) -> usize
-    ensures { result ≡ length (head_text kind) }
+// What stands before the terms: `min:` and a space, or nothing for a row.
+fn head(kind: Kind) -> &'static [u8]
+    ensures { result.now ≡ head_text (number_of kind) }
 {
-    if kind == Entry::OBJECTIVE { 5 } else { 0 }
+    match kind {
+        Kind::Objective => b"min: ",
+        Kind::AtLeast | Kind::AtMost | Kind::Equal | Kind::Other(_) => b"",
+    }
 }
 
-// The length of a row's relation.
-fn relation_len(kind: usize) -> usize
-    ensures { result ≡ length (relation_text kind) }
+// A row's relation.
+fn relation(kind: Kind) -> &'static [u8]
+    ensures { result.now ≡ relation_text (number_of kind) }
 {
-    if kind == Entry::AT_LEAST {
-        return 2;
+    match kind {
+        Kind::AtLeast => b">=",
+        Kind::AtMost => b"<=",
+        Kind::Objective | Kind::Equal | Kind::Other(_) => b"=",
     }
-    if kind == Entry::AT_MOST { 2 } else { 1 }
 }
 
 // The length of what stands after the terms.
-fn bound_len(kind: usize, bound: i64) -> usize
-    ensures { result ≡ length (bound_text kind bound) }
+fn bound_len(kind: Kind, bound: i64) -> usize
+    ensures { result ≡ length (bound_text (number_of kind) bound) }
 {
-    if kind == Entry::OBJECTIVE {
+    if matches!(kind, Kind::Objective) {
         return 0;
     }
-    relation_len(kind) + decimal::integer_len(bound) + 2
+    relation(kind).len() + integer_len(bound) + 2
 }
 
 // The length of a statement.
@@ -43,49 +49,22 @@ pub fn statement_len(terms: &[i32], e: Entry) -> usize
 {
     let first = e.first;
     let end = first + e.count;
-    head_len(e.kind) + terms_len(terms, first, end) + bound_len(e.kind, e.bound) + 2
-}
-
-// Writes what stands before the terms: `min:` and a space, or nothing for a row.
-fn put_head(out: &mut [u8], at: usize, kind: usize) -> usize
-    requires { at + length (head_text kind) ≤ length out.old }
-    ensures left { out.new ≡ overwrite out.old at (head_text kind) }
-    ensures next { result ≡ at + length (head_text kind) }
-{
-    if kind == Entry::OBJECTIVE {
-        return decimal::put_bytes(out, at, b"min: ");
-    }
-    at
-}
-
-// Writes a row's relation.
-fn put_relation(out: &mut [u8], at: usize, kind: usize) -> usize
-    requires { at + length (relation_text kind) ≤ length out.old }
-    ensures left { out.new ≡ overwrite out.old at (relation_text kind) }
-    ensures next { result ≡ at + length (relation_text kind) }
-{
-    if kind == Entry::AT_LEAST {
-        return decimal::put_bytes(out, at, b">=");
-    }
-    if kind == Entry::AT_MOST {
-        return decimal::put_bytes(out, at, b"<=");
-    }
-    decimal::put_byte(out, at, b'=')
+    head(e.kind).len() + terms_len(terms, first, end) + bound_len(e.kind, e.bound) + 2
 }
 
 // Writes what stands after the terms: nothing for an objective; relation, space, bound and space for a row.
-fn put_bound(out: &mut [u8], at: usize, kind: usize, bound: i64) -> usize
-    requires { at + length (bound_text kind bound) ≤ length out.old }
-    ensures left { out.new ≡ overwrite out.old at (bound_text kind bound) }
-    ensures next { result ≡ at + length (bound_text kind bound) }
+fn put_bound(out: &mut [u8], at: usize, kind: Kind, bound: i64) -> usize
+    requires { at + length (bound_text (number_of kind) bound) ≤ length out.old }
+    ensures left { out.new ≡ overwrite out.old at (bound_text (number_of kind) bound) }
+    ensures next { result ≡ at + length (bound_text (number_of kind) bound) }
 {
-    if kind == Entry::OBJECTIVE {
+    if matches!(kind, Kind::Objective) {
         return at;
     }
-    let relation = put_relation(out, at, kind);
-    let gap = decimal::put_byte(out, relation, b' ');
-    let digits = decimal::put_integer(out, gap, bound);
-    decimal::put_byte(out, digits, b' ')
+    let relation = put_bytes(out, at, relation(kind));
+    let gap = put_byte(out, relation, b' ');
+    let digits = put_integer(out, gap, bound);
+    put_byte(out, digits, b' ')
 }
 
 // Writes a statement.
@@ -97,8 +76,8 @@ pub fn put_statement(out: &mut [u8], at: usize, terms: &[i32], e: Entry) -> usiz
 {
     let first = e.first;
     let end = first + e.count;
-    let head = put_head(out, at, e.kind);
+    let head = put_bytes(out, at, head(e.kind));
     let sum = put_terms(out, head, terms, first, end);
     let bound = put_bound(out, sum, e.kind, e.bound);
-    decimal::put_bytes(out, bound, b";\n")
+    put_bytes(out, bound, b";\n")
 }

@@ -8,13 +8,6 @@ ghost use Rattle.writing.specs.Writing.{literal_text, term_text, terms_text};
 
 use instance::Term;
 
-// A number of 32 bits as one of 64.
-fn wide(x: i32) -> i64
-    ensures { result ≡ x }
-{
-    x as i64
-}
-
 // The length of a literal: as that of the number, whose minus `~` stands for, and `x`.
 fn literal_len(lit: i64) -> usize
     ensures { result ≡ length (literal_text lit) }
@@ -26,7 +19,7 @@ fn literal_len(lit: i64) -> usize
 fn term_len(t: Term) -> usize
     ensures { result ≡ length (term_text (term_of t)) }
 {
-    decimal::signed_len(wide(t.coef)) + literal_len(wide(t.lit)) + 2
+    decimal::signed_len(i64::from(t.coef)) + literal_len(i64::from(t.lit)) + 2
 }
 
 // The length of the terms from `first` on, up to `end`.
@@ -37,10 +30,8 @@ pub fn terms_len(terms: &[i32], first: usize, end: usize) -> usize
     ensures { result ≡ length (terms_text (terms_at terms.now first (end - first))) }
 {
     let mut sum: usize = 0;
-    let mut k: usize = first;
-    while k < end {
-        sum = sum + term_len(Term::at(terms, k));
-        k = k + 1;
+    for k in first..end {
+        sum += term_len(Term::at(terms, k));
     }
     sum
 }
@@ -51,7 +42,7 @@ fn put_literal(out: &mut [u8], at: usize, lit: i64) -> usize
     ensures left { out.new ≡ overwrite out.old at (literal_text lit) }
     ensures next { result ≡ at + length (literal_text lit) }
 {
-    let size = integers::magnitude(lit);
+    let size = lit.unsigned_abs();
     if lit < 0 {
         let from = decimal::put_bytes(out, at, b"~x");
         return decimal::put_decimal(out, from, size);
@@ -66,9 +57,9 @@ fn put_term(out: &mut [u8], at: usize, t: Term) -> usize
     ensures left { out.new ≡ overwrite out.old at (term_text (term_of t)) }
     ensures next { result ≡ at + length (term_text (term_of t)) }
 {
-    let coef = decimal::put_signed(out, at, wide(t.coef));
+    let coef = decimal::put_signed(out, at, i64::from(t.coef));
     let gap = decimal::put_byte(out, coef, b' ');
-    let lit = put_literal(out, gap, wide(t.lit));
+    let lit = put_literal(out, gap, i64::from(t.lit));
     decimal::put_byte(out, lit, b' ')
 }
 
@@ -81,10 +72,8 @@ pub fn put_terms(out: &mut [u8], at: usize, terms: &[i32], first: usize, end: us
     ensures next { result ≡ at + length (terms_text (terms_at terms.now first (end - first))) }
 {
     let mut place = at;
-    let mut k: usize = first;
-    while k < end {
+    for k in first..end {
         place = put_term(out, place, Term::at(terms, k));
-        k = k + 1;
     }
     place
 }

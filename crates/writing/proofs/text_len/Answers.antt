@@ -25,7 +25,7 @@ step c =
     )
 
 pub loop-k-init : goal.loop-k-init
-loop-k-init c = (omega arith, omega (arith, ap length (text-entries c.requires.instance c.args.n c.requires.n_value)))
+loop-k-init c = omega (arith, ap length (text-entries c.requires.instance c.args.n c.requires.n_value))
 
 pub at-requires : goal.at-requires
 at-requires c =
@@ -38,7 +38,7 @@ pub overflow_add-sum : goal.overflow_add-sum
 overflow_add-sum c = omega (arith, step (goal.at.overflow_add-sum c).After-at, text-most c.requires.instance)
 
 pub loop-k-preserved : goal.loop-k-preserved
-loop-k-preserved c = (omega arith, omega (arith, step (goal.at.loop-k-preserved c).After-at))
+loop-k-preserved c = omega (arith, step (goal.at.loop-k-preserved c).After-at)
 
 pub returns : goal.returns
 returns c =

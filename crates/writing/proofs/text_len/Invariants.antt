@@ -2,7 +2,7 @@
 -- The loop's invariant: the sum and the length of the statements that are left are together that of the text. The measure is the number of
 -- entries left. Assumes nothing.
 use mathlib.Core.Path.{◌≡◌}
-use Prim.Native.Nat.{◌+◌, ◌-◌, ◌≤◌}
+use Prim.Native.Nat.{◌+◌, ◌-◌}
 use lib.ListN.{length}
 use Rattle.instance.specs.Lists.{tabulate}
 use Rattle.instance.specs.Meaning.{entry_at}
@@ -12,7 +12,5 @@ use Rattle.writing.proofs.text_len.Given as goal
 
 abbrev pub invariant-loop-k : goal.invariant-loop-k
 invariant-loop-k l =
-    (l.k ≤ l.n) × (l.sum + length (statements_text (tabulate (entry_at l.terms l.rows) l.k (l.n - l.k))) ≡ length (text_of l.terms l.rows))
+    (l.sum + length (statements_text (tabulate (entry_at l.terms l.rows) l.k (l.n - l.k))) ≡ length (text_of l.terms l.rows))
 
-abbrev pub decreases-loop-k : goal.decreases-loop-k
-decreases-loop-k l = l.n - l.k

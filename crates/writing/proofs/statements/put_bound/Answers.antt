@@ -1,14 +1,16 @@
 -- `writing::statements::put_bound` meets its contract: nothing for an objective; else relation, space, bound and space are put one after the other. Assumes nothing.
-use mathlib.Core.Path.{◌≡◌, sym, ap, subst}
+use mathlib.Core.Path.{◌≡◌, sym, ap}
 use mathlib.Core.List.{List, [], ◌∷◌, ◌++◌}
 use Prim.Native.Nat.{ℕ, ◌+◌, ◌≤◌}
 use lib.IntN.{ℤ}
 use lib.ListN.{length}
 use mir.Facts.{to_z-of_z}
 use mir.Syntax.{w64}
+use Rattle.std.proofs.Common.{rules}
 use Rattle.decimal.specs.Decimal.{integer}
+use Rattle.instance.specs.Kinds.{number_of}
 use Rattle.writing.specs.Writing.{relation_text, bound_text}
-use Rattle.writing.proofs.RestLaws.{Put, put_as, put-none, Rest, rest_all, rest-as, rest-room, rest_put, rest-room-all, rest-put-all}
+use Rattle.writing.proofs.RestLaws.{Put, put_as, put-none, Rest, rest_all, rest-as, rest_put, rest-put-all}
 use Rattle.writing.proofs.TextLaws.{bound-objective, bound-row}
 use Rattle.writing.proofs.statements.put_bound.Goals as goal
 
@@ -25,42 +27,20 @@ module _ (xs : List ℕ) (at kind : ℕ) (bound : ℤ) (h : at + length (bound_t
       after-space : Rest xs at (bound_text kind bound) b j (integer bound ++ (32 ∷ []))
       after-space = rest_put (32 ∷ []) (integer bound ++ (32 ∷ [])) after-relation q
 
-      digits-room : j + length (integer z) ≤ length b
-      digits-room = subst (λ (u : ℤ). j + length (integer u) ≤ length b) (sym e) (rest-room (integer bound) (32 ∷ []) after-space)
-
       after-digits : {d : List ℕ} {k : ℕ} → Put b j (integer z) d k → Rest xs at (bound_text kind bound) d k (32 ∷ [])
       after-digits r = rest_put (integer bound) (32 ∷ []) after-space (put_as b j (ap integer e) r)
 
-pub returns-then-kind-eq-OBJECTIVE : goal.returns-then-kind-eq-OBJECTIVE
-returns-then-kind-eq-OBJECTIVE c =
-    let p = put-none c.args.out.now c.args.at (bound-objective c.args.bound c.if-kind-eq-OBJECTIVE.true) in record { left = p.0; next = p.1 }
+pub returns-then-matches-clause-left : goal.returns-then-matches-clause-left
+returns-then-matches-clause-left c =
+    let e : number_of c.args.kind ≡ 1 = Prim.search rules in
+    (put-none c.args.out.now c.args.at (bound-objective c.args.bound e)).0
 
-pub put_relation-relation-requires : goal.put_relation-relation-requires
-put_relation-relation-requires c =
-    rest-room (relation_text c.args.kind) (32 ∷ (integer c.args.bound ++ (32 ∷ []))) (all c.args.out.now c.args.at c.args.kind c.args.bound c.requires c.if-kind-eq-OBJECTIVE.false)
-
-pub put_byte-gap-requires : goal.put_byte-gap-requires
-put_byte-gap-requires c =
-    rest-room (32 ∷ []) (integer c.args.bound ++ (32 ∷ []))
-    (after-relation c.args.out.now c.args.at c.args.kind c.args.bound c.requires c.if-kind-eq-OBJECTIVE.false (c.put_relation-relation.ensures.left, c.put_relation-relation.ensures.next))
-
-pub put_integer-digits-requires : goal.put_integer-digits-requires
-put_integer-digits-requires c =
-    digits-room c.args.out.now c.args.at c.args.kind c.args.bound c.requires c.if-kind-eq-OBJECTIVE.false
-    (c.put_relation-relation.ensures.left, c.put_relation-relation.ensures.next) (c.put_byte-gap.ensures.left, c.put_byte-gap.ensures.next)
-    (to_z-of_z {w = w64} c.ranges.bound)
-
-pub put_byte-requires : goal.put_byte-requires
-put_byte-requires c =
-    rest-room-all
-    (after-digits c.args.out.now c.args.at c.args.kind c.args.bound c.requires c.if-kind-eq-OBJECTIVE.false
-    (c.put_relation-relation.ensures.left, c.put_relation-relation.ensures.next) (c.put_byte-gap.ensures.left, c.put_byte-gap.ensures.next)
-    (to_z-of_z {w = w64} c.ranges.bound) (c.put_integer-digits.ensures.left, c.put_integer-digits.ensures.next))
-
-pub returns : goal.returns
-returns c =
+pub returns-clause-left : goal.returns-clause-left
+returns-clause-left c =
+    let n : number_of c.args.kind ≡ 1 → ⊥ = Prim.search rules in
     let r =
-    after-digits c.args.out.now c.args.at c.args.kind c.args.bound c.requires c.if-kind-eq-OBJECTIVE.false
-    (c.put_relation-relation.ensures.left, c.put_relation-relation.ensures.next) (c.put_byte-gap.ensures.left, c.put_byte-gap.ensures.next)
+    after-digits c.args.out.now c.args.at (number_of c.args.kind) c.args.bound c.requires n
+    (put_as c.args.out.now c.args.at c.relation.ensures (c.put_bytes-relation.ensures.left, c.put_bytes-relation.ensures.next))
+    (c.put_byte-gap.ensures.left, c.put_byte-gap.ensures.next)
     (to_z-of_z {w = w64} c.ranges.bound) (c.put_integer-digits.ensures.left, c.put_integer-digits.ensures.next) in
-    let p = rest-put-all r (c.put_byte.ensures.left, c.put_byte.ensures.next) in record { left = p.0; next = p.1 }
+    (rest-put-all r (c.put_byte.ensures.left, c.put_byte.ensures.next)).0

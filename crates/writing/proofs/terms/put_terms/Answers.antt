@@ -17,26 +17,20 @@ left : (c : After-at) → Rest c.args.out.now c.args.at (terms_text (terms_at c.
 left c =
     let rest = terms_text (terms_at c.args.terms.now (c.loop-k.k + 1) (c.args.end - (c.loop-k.k + 1))) in
     rest-as (ap (λ (t : Term). term_text t ++ rest) (sym c.at.ensures))
-    (rest-as (terms-more (term_at c.args.terms.now) c.loop-k.k c.args.end (omega arith)) c.loop-k.invariant.2)
+    (rest-as (terms-more (term_at c.args.terms.now) c.loop-k.k c.args.end (omega arith)) c.loop-k.invariant)
 
 pub loop-k-init : goal.loop-k-init
 loop-k-init c =
-    (omega arith, omega arith, rest_all c.args.out.now c.args.at (terms_text (terms_at c.args.terms.now c.args.first (c.args.end - c.args.first))) c.requires.first_in_bounds)
+    rest_all c.args.out.now c.args.at (terms_text (terms_at c.args.terms.now c.args.first (c.args.end - c.args.first))) c.requires.first_in_bounds
 
 pub put_term-place-requires : goal.put_term-place-requires
 put_term-place-requires c =
     rest-room (term_text (term_of c.at.result)) (terms_text (terms_at c.args.terms.now (c.loop-k.k + 1) (c.args.end - (c.loop-k.k + 1)))) (left c)
 
 pub loop-k-preserved : goal.loop-k-preserved
-loop-k-preserved c = (
-  omega arith,
-  omega arith,
-  rest_put (term_text (term_of c.at.result)) (terms_text (terms_at c.args.terms.now (c.loop-k.k + 1) (c.args.end - (c.loop-k.k + 1)))) (left (goal.at.loop-k-preserved c).After-at) (c.put_term-place.ensures.left, c.put_term-place.ensures.next),
-)
-
-pub shape_of-out : goal.shape_of-out
-shape_of-out c = omega (arith, c.loop-k.invariant.2.size)
+loop-k-preserved c =
+    rest_put (term_text (term_of c.at.result)) (terms_text (terms_at c.args.terms.now (c.loop-k.k + 1) (c.args.end - (c.loop-k.k + 1)))) (left (goal.at.loop-k-preserved c).After-at) (c.put_term-place.ensures.left, c.put_term-place.ensures.next)
 
 pub returns : goal.returns
 returns c =
-    let p = rest-none (rest-as (terms-none (term_at c.args.terms.now) c.loop-k.k c.args.end (omega arith)) c.loop-k.invariant.2) in record { left = p.0; next = p.1 }
+    let p = rest-none (rest-as (terms-none (term_at c.args.terms.now) c.loop-k.k c.args.end (omega arith)) c.loop-k.invariant) in record { left = p.0; next = p.1 }
