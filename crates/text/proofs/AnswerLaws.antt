@@ -9,13 +9,16 @@ use borrow.Author.Tests.{le-ltb}
 use lib.Dec.{eqb}
 use lib.IntN.{ℤ}
 use lib.ListN.{length, take}
+use Rattle.std.specs.Prelude.{Result, Ok, Err}
 use Rattle.instance.specs.Limits.{term_room, row_room}
 use Rattle.instance.specs.Terms.{highest}
 use Rattle.instance.specs.Rows.{Entry}
 use Rattle.instance.specs.Tables.{IsInstance}
 use Rattle.instance.specs.Meaning.{Instance, meaning}
 use Rattle.instance.specs.Layout.{all_terms, term_table, row_table}
-use Rattle.reading.specs.declared.texts.TextRead.TheVariants.{Done, ShortTable, LongText, Grammar, LateObjective, TooMany, OutOfRange, NoVariable, TooManyTerms, NoObjective}
+use Rattle.reading.specs.declared.errors.ReadError.{ReadError}
+use Rattle.reading.specs.declared.errors.ReadError.TheVariants.{ShortTable, LongText}
+use Rattle.reading.specs.Refusals.{refusal-some}
 use Rattle.reading.specs.Limits.{max_text}
 use Rattle.reading.specs.Reading.{Outcome, accepted, refused, read_bytes, instance_of}
 use Rattle.reading.specs.Answers.{read_number, refusal_of, answer_of, entries_of, is_short, is_long, read_answer, read_terms, read_rows}
@@ -29,11 +32,11 @@ module _ (text : List ℕ) (ts rs : List ℤ) (short : is_short ts rs ≡ false)
   -- The answer is what the text says.
   pub answer-said : read_answer text ts rs ≡ answer_of (read_bytes text)
   answer-said =
-      ap (λ (t : Bool). cond t ShortTable (cond (is_long text) LongText (answer_of (read_bytes text)))) short
-      ∙ ap (λ (t : Bool). cond t LongText (answer_of (read_bytes text))) long
+      ap (λ (t : Bool). cond t (Err ShortTable) (cond (is_long text) (Err LongText) (answer_of (read_bytes text)))) short
+      ∙ ap (λ (t : Bool). cond t (Err LongText) (answer_of (read_bytes text))) long
 
 module _ (text : List ℕ) (ts rs : List ℤ) (short : is_short ts rs ≡ false) (long : is_long text ≡ false) {os es : List Entry} (e : read_bytes text ≡ accepted os es) where
-  answer-done : read_answer text ts rs ≡ Done (highest (all_terms (os ++ es)))
+  answer-done : read_answer text ts rs ≡ Ok (highest (all_terms (os ++ es)))
   answer-done = answer-said text ts rs short long ∙ ap answer_of e
 
   neither : is_short ts rs || is_long text ≡ false
@@ -66,8 +69,8 @@ module _ {ts rs : List ℤ} (i : IsInstance ts rs) where
 
   -- What is written of an instance is read into any tables with room: done, the same number of variables, the same rooms.
   module _ (a b : List ℤ) (terms-room : term_room ≤ length a) (rows-room : row_room ≤ length b) where
-    pub written-answer : read_answer (text_of ts rs) a b ≡ Done (meaning ts rs).variables
-    written-answer = answer-done (text_of ts rs) a b (room-enough a b terms-room rows-room) not-long back.accepts ∙ ap Done back.variables_same
+    pub written-answer : read_answer (text_of ts rs) a b ≡ Ok (meaning ts rs).variables
+    written-answer = answer-done (text_of ts rs) a b (room-enough a b terms-room rows-room) not-long back.accepts ∙ ap Ok back.variables_same
 
     pub written-terms : take term_room (read_terms (text_of ts rs) a b) ≡ take term_room ts
     written-terms = ap (take term_room) (terms-done (text_of ts rs) a b (room-enough a b terms-room rows-room) not-long back.accepts) ∙ back.terms_anywhere a
@@ -85,32 +88,22 @@ module _ {ts rs : List ℤ} (i : IsInstance ts rs) where
 -- ---- text, tables, text
 
 -- a refusal is not done
-refusal-some : (k s : ℕ) → read_number (refusal_of k s) ≡ 0 → ⊥
-refusal-some k s = by (eqb k 3) (eqb k 4) (eqb k 5) (eqb k 6) (eqb k 7) (eqb k 8)
-  where
-    by : (a b c d e f : Bool)
-        → read_number (cond a (Grammar s) (cond b (LateObjective s) (cond c (TooMany s) (cond d (OutOfRange s) (cond e (NoVariable s) (cond f (TooManyTerms s) NoObjective)))))) ≡ 0 → ⊥
-    by true b c d e f h = omega arith
-    by false true c d e f h = omega arith
-    by false false true d e f h = omega arith
-    by false false false true e f h = omega arith
-    by false false false false true f h = omega arith
-    by false false false false false true h = omega arith
-    by false false false false false false h = omega arith
+done-no : (e : ReadError) {n : ℕ} → Err e ≡ Ok n → ⊥
+done-no e h = omega (arith, refusal-some e, ap read_number h)
 
-variable-number : {n m : ℕ} → Done n ≡ Done m → n ≡ m
+variable-number : {n m : ℕ} → ◌≡◌ {A = Result ℕ ReadError} (Ok n) (Ok m) → n ≡ m
 variable-number e = cc
 
 module _ (text : List ℕ) (ts rs : List ℤ) {n : ℕ} where
   -- Where reading answers done, the tables that it leaves are an instance, whose variables it answers.
-  pub done-instance : read_answer text ts rs ≡ Done n → LeavesInstance n (read_terms text ts rs) (read_rows text ts rs)
+  pub done-instance : read_answer text ts rs ≡ Ok n → LeavesInstance n (read_terms text ts rs) (read_rows text ts rs)
   done-instance h = by (is_short ts rs) (is_long text) (read_bytes text) refl refl refl h
     where
-      by : (t u : Bool) (o : Outcome) → is_short ts rs ≡ t → is_long text ≡ u → read_bytes text ≡ o → cond t ShortTable (cond u LongText (answer_of o)) ≡ Done n
+      by : (t u : Bool) (o : Outcome) → is_short ts rs ≡ t → is_long text ≡ u → read_bytes text ≡ o → cond t (Err ShortTable) (cond u (Err LongText) (answer_of o)) ≡ Ok n
           → LeavesInstance n (read_terms text ts rs) (read_rows text ts rs)
-      by true u o e f g h = absurd (omega (arith, ap read_number h))
-      by false true o e f g h = absurd (omega (arith, ap read_number h))
-      by false false (refused k s) e f g h = absurd (refusal-some k s (ap read_number h))
+      by true u o e f g h = absurd (done-no ShortTable h)
+      by false true o e f g h = absurd (done-no LongText h)
+      by false false (refused k s) e f g h = absurd (done-no (refusal_of k s) h)
       by false false (accepted os es) e f g h = record {
         is = done-is text ts rs e f g;
         variables = ap (λ (i : Instance). i.variables) (done-meaning text ts rs e f g) ∙ variable-number h;
