@@ -4,39 +4,29 @@ use mathlib.Core.Bool.{Bool, true, false}
 use mathlib.Core.List.{List, [], ◌∷◌, ◌++◌}
 use Prim.Native.Nat.{ℕ, zero, suc, ◌+◌, ◌-◌, ◌*◌, ◌^◌, ◌≤◌, ◌<◌}
 use native.Mathlib.Omega.{arith}
-use lib.IntN.{ℤ}
+use lib.IntN.{ℤ, pos}
 use mir.Syntax.{w64}
 use mir.Val.{SFits, hbits}
 use lib.Signed.{mag}
-use lib.ListN.{length, length-append}
+use lib.ListN.{length, length-append, get_or, drop}
+use Rattle.std.proofs.Math.Seq.{drop-cons}
+use Rattle.std.proofs.lemmas.List.{drop_all}
 use Rattle.decimal.specs.Decimal.{decimal, integer}
-use Rattle.instance.specs.Lists.{tabulate}
-use Rattle.instance.proofs.ListLaws.{tabulate-same}
 use Rattle.writing.proofs.LengthLaws.{decimal-most, integer-most}
 use Rattle.lines.specs.Lines.{end_text, front_line, values_text, point_line, refused_line, objectives_word, variables_word, values_word, model_word, statement_word}
 
 -- ---- values_text
 
-pub values-none : (f : ℕ → ℤ) (first : ℕ) → [] ≡ values_text (tabulate f first 0)
-unfolding tabulate values_text
-values-none f first = refl
+-- what is left to write from value k on: at each turn, and at the end
+pub values-next : (vs : List ℤ) (k : ℕ) → k < length vs → values_text (drop k vs) ≡ (32 ∷ integer (get_or vs k (pos 0))) ++ values_text (drop (k + 1) vs)
+unfolding values_text
+values-next vs k h =
+    let s : suc k ≡ k + 1 = omega arith in
+    ap values_text (drop-cons vs k (pos 0) h) ∙ ap (λ (j : ℕ). (32 ∷ integer (get_or vs k (pos 0))) ++ values_text (drop j vs)) s
 
-pub values-more : (f : ℕ → ℤ) (first n : ℕ) → 1 ≤ n → values_text (tabulate f first n) ≡ (32 ∷ integer (f first)) ++ values_text (tabulate f (first + 1) (n - 1))
-unfolding tabulate values_text
-values-more f first zero h = absurd (omega arith)
-values-more f first (suc n) h = ap (λ (l : List ℤ). (32 ∷ integer (f first)) ++ values_text l) (tabulate-same f (suc first) (first + 1) n (suc n - 1) (omega arith) (omega arith))
-
--- what is left to write after k of n values: at the start, at each turn, at the end
-pub values-start : (f : ℕ → ℤ) (first n : ℕ) → values_text (tabulate f first n) ≡ values_text (tabulate f (first + 0) (n - 0))
-values-start f first n = ap values_text (tabulate-same f first (first + 0) n (n - 0) (omega arith) (omega arith))
-
-pub values-next : (f : ℕ → ℤ) (first k n : ℕ) → k < n → values_text (tabulate f (first + k) (n - k)) ≡ (32 ∷ integer (f (first + k))) ++ values_text (tabulate f (first + (k + 1)) (n - (k + 1)))
-values-next f first k n h =
-    values-more f (first + k) (n - k) (omega arith)
-    ∙ ap (λ (l : List ℤ). (32 ∷ integer (f (first + k))) ++ values_text l) (tabulate-same f (first + k + 1) (first + (k + 1)) (n - k - 1) (n - (k + 1)) (omega arith) (omega arith))
-
-pub values-end : (f : ℕ → ℤ) (first k n : ℕ) → n ≤ k → values_text (tabulate f (first + k) (n - k)) ≡ []
-values-end f first k n h = ap values_text (tabulate-same f (first + k) (first + k) (n - k) 0 refl (omega arith)) ∙ sym (values-none f (first + k))
+pub values-end : (vs : List ℤ) (k : ℕ) → length vs ≤ k → values_text (drop k vs) ≡ []
+unfolding values_text
+values-end vs k h = ap values_text (drop_all k vs h)
 
 pub values-most : (vs : List ℤ) → length (values_text vs) ≤ length vs * 22
 unfolding values_text

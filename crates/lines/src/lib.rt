@@ -1,30 +1,21 @@
 // The lines of a listing (document 01, 'The listing program'), each written at the beginning of a lent run of bytes.
 //
 // put_front(out, points, objectives, n, cut)                   the first line
-// put_point(out, place, values, first, count, model)           the line of a point
+// put_point(out, place, values, model)                         the line of a point
 // put_refused(out, number, statement)                          the line of a refusal
 //
-// Each answers how long the line is. A run of Line::LEN bytes has room for each. Read specs/Lines.antt.
+// Each answers how long the line is. A run of MAX_LINE bytes has room for each. Read specs/Lines.antt.
 #![tactic(auto)]
 
-ghost use Rattle.std.specs.Prelude.{◌≡◌, ◌++◌, ◌∷◌, [], ◌+◌, ◌≤◌, pos, length, get_or};
+ghost use Rattle.std.specs.Prelude.{◌≡◌, ◌++◌, ◌∷◌, [], ◌+◌, ◌≤◌, length};
 ghost use Rattle.decimal.specs.Bytes.{overwrite};
 ghost use Rattle.decimal.specs.Decimal.{decimal, integer};
-ghost use Rattle.instance.specs.Lists.{tabulate};
 ghost use Rattle.lines.specs.Lines.{end_text, front_line, values_text, point_line, refused_line};
 
 use decimal::{put_byte, put_bytes, put_decimal, put_integer};
 
-// A line of a listing.
-#[derive(Drop)]
-pub struct Line {
-    pub len: usize,
-}
-
-impl Line {
-    // Bytes that each line fits in.
-    pub const LEN: usize = 256;
-}
+// Bytes that each line fits in.
+pub const MAX_LINE: usize = 256;
 
 // Writes a word and a number.
 fn put_word(out: &mut [u8], at: usize, word: &[u8], x: u64) -> usize
@@ -71,40 +62,30 @@ fn put_value(out: &mut [u8], at: usize, v: i64) -> usize
     put_integer(out, from, v)
 }
 
-// Writes the `count` values from `first` on, each after a space.
-fn put_values(out: &mut [u8], at: usize, values: &[i64], first: usize, count: usize) -> usize
-    requires count_in_bounds { first + count ≤ length values.now }
-    requires count_in_bounds_2 { at + length (values_text (tabulate (λ k. get_or values.now k (pos 0)) first count)) ≤ length out.old }
-    ensures left { out.new ≡ overwrite out.old at (values_text (tabulate (λ k. get_or values.now k (pos 0)) first count)) }
-    ensures next { result ≡ at + length (values_text (tabulate (λ k. get_or values.now k (pos 0)) first count)) }
+// Writes values, each after a space.
+fn put_values(out: &mut [u8], at: usize, values: &[i64]) -> usize
+    requires { at + length (values_text values.now) ≤ length out.old }
+    ensures left { out.new ≡ overwrite out.old at (values_text values.now) }
+    ensures next { result ≡ at + length (values_text values.now) }
 {
     let mut place = at;
-    let mut k: usize = 0;
-    while k < count {
-        place = put_value(out, place, values[first + k]);
-        k += 1;
+    for &v in values {
+        place = put_value(out, place, v);
     }
     place
 }
 
-// Writes the line of a point: its place, the `count` values from `first` on, its witness.
+// Writes the line of a point: its place, its used values, its witness.
 // Rules out: another point's values; a value without its minus.
-pub fn put_point(
-    out: &mut [u8],
-    place: u64,
-    values: &[i64],
-    first: usize,
-    count: usize,
-    model: u64,
-) -> usize
+pub fn put_point(out: &mut [u8], place: u64, values: &[i64], model: u64) -> usize
     requires in_bounds { 256 ≤ length out.old }
-    requires count_bound { (count ≤ 4) × (first + count ≤ length values.now) }
-    ensures left { out.new ≡ overwrite out.old 0 (point_line place (tabulate (λ k. get_or values.now k (pos 0)) first count) model) }
-    ensures next { result ≡ length (point_line place (tabulate (λ k. get_or values.now k (pos 0)) first count) model) }
+    requires few { length values.now ≤ 4 }
+    ensures left { out.new ≡ overwrite out.old 0 (point_line place values.now model) }
+    ensures next { result ≡ length (point_line place values.now model) }
 {
     let a = put_word(out, 0, b"point ", place);
     let b = put_bytes(out, a, b" values");
-    let c = put_values(out, b, values, first, count);
+    let c = put_values(out, b, values);
     let d = put_word(out, c, b" model ", model);
     put_byte(out, d, b'\n')
 }
