@@ -8,6 +8,7 @@ use native.Mathlib.Nat.{pow-suc}
 use native.Mathlib.Omega.{arith}
 use borrow.Author.Tests.{lt-ltb, le-ltb}
 use lib.ListN.{length, get_or, length-append, get_or-append}
+use Rattle.std.specs.Prelude.{Some}
 use Rattle.decimal.specs.Decimal.{decimal_in, decimal, digit_byte, all_digits, digits_value, is_numeral, max_digits, read_numeral}
 use Rattle.decimal.proofs.NumeralLaws.{digit-one, all_digits-append, digits_value-snoc, numeral-yes, read-yes}
 
@@ -158,5 +159,5 @@ decimal-numeral n h =
     numeral-yes (decimal n) (decimal-some n) (decimal-length max_digits n (omega arith) h) (decimal-digits n)
 
 -- and read back as itself
-pub decimal-read : (n : ℕ) → n < 10 ^ max_digits → read_numeral (decimal n) ≡ record { ok = true; value = n }
+pub decimal-read : (n : ℕ) → n < 10 ^ max_digits → read_numeral (decimal n) ≡ Some n
 decimal-read n h = sym (read-yes (decimal n) n (decimal-numeral n h) (sym (decimal-value n (omega arith))))

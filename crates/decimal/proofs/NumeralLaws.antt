@@ -8,10 +8,12 @@ use native.Mathlib.Numerals.{add-one}
 use native.Mathlib.Omega.{arith}
 use borrow.Author.Tests.{le-leb, lt-leb, leb-true}
 use lib.Dec.{T, leb}
+use Rattle.std.specs.Prelude.{Option, Some, None}
+use Rattle.std.proofs.lemmas.Option.{cond_some}
 use lib.ListN.{length, get_or, drop}
 use lib.Seq.{drop-cons, drop-length}
 use Rattle.decimal.specs.Decimal.{digit_byte, is_digit, all_digits, digits_value, is_numeral, max_digits, read_numeral}
-use Rattle.decimal.specs.declared.Numeral.{Numeral}
+
 
 -- ---- both of two tests
 
@@ -141,19 +143,17 @@ numeral-other w h =
 
 -- ---- read_numeral
 
-pub read-yes : (w : List ℕ) (v : ℕ) → is_numeral w ≡ true → v ≡ digits_value 0 w → ◌≡◌ {A = Numeral} (record { ok = true; value = v }) (read_numeral w)
+pub read-yes : (w : List ℕ) (v : ℕ) → is_numeral w ≡ true → v ≡ digits_value 0 w → Some v ≡ read_numeral w
 read-yes w v t e = rw (t, e)
 
-pub read_no : (w : List ℕ) → is_numeral w ≡ false → ◌≡◌ {A = Numeral} (record { ok = false; value = 0 }) (read_numeral w)
+pub read_no : (w : List ℕ) → is_numeral w ≡ false → None ≡ read_numeral w
 read_no w t = rw t
 
--- what is read is below 10 ^ 10, of every word
-pub read-less : (w : List ℕ) → (read_numeral w).value < 10 ^ max_digits
-read-less w = by (is_numeral w) refl
-  where
-    by : (t : Bool) → is_numeral w ≡ t → cond (is_numeral w) (digits_value 0 w) 0 < 10 ^ max_digits
-    by true e = rw e (numeral-less w e)
-    by false e = rw e (omega arith)
+-- what is read is below 10 ^ 10
+pub read-less : (w : List ℕ) (v : ℕ) → read_numeral w ≡ Some v → v < 10 ^ max_digits
+read-less w v h =
+    let e = cond_some (is_numeral w) (digits_value 0 w) v h in
+    rw (sym (e.1)) (numeral-less w (e.0))
 
 -- ---- a reader at byte i of w, all before it digits
 
@@ -170,7 +170,7 @@ reader-go w i h e t =
 -- it is at the end
 pub reader-end : (w : List ℕ) (i v : ℕ) → i ≡ length w → 1 ≤ length w → length w ≤ max_digits
     → digits_value v (drop i w) ≡ digits_value 0 w → all_digits (drop i w) ≡ all_digits w
-    → ◌≡◌ {A = Numeral} (record { ok = true; value = v }) (read_numeral w)
+    → Some v ≡ read_numeral w
 unfolding digits_value all_digits
 reader-end w i v end some few e t =
     let none : drop i w ≡ [] = ap (λ (k : ℕ). drop k w) end ∙ drop-length w in

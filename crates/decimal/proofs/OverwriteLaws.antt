@@ -104,15 +104,7 @@ overwrite-last xs at ys b h =
     ∙ ap (λ (l : List ℕ). take at xs ++ (ys ++ l)) (after ∙ ap (λ (k : ℕ). b ∷ drop k xs) end)
     ∙ ap (λ (l : List ℕ). take at xs ++ l) (sym (append_assoc ys (b ∷ []) (drop (at + length (ys ++ (b ∷ []))) xs)))
 
--- ---- a copy, byte after byte
-
--- a turn of the loop that copies
-pub copy_step : (out xs : List ℕ) (at : ℕ) (ys : List ℕ) (i : ℕ) → out ≡ paste xs at ys i → at + i < length xs → i < length ys
-    → set out (at + i) (get_or ys i 0) ≡ paste xs at ys (i + 1)
-copy_step out xs at ys i e h l =
-    ap (λ (o : List ℕ). set o (at + i) (get_or ys i 0)) e
-    ∙ paste-suc xs at ys i 0 h l
-    ∙ ap (paste xs at ys) (sym (add-one i))
+-- ---- a copy of all bytes
 
 -- a whole copy is a write
 pub copy-all : (xs : List ℕ) (at : ℕ) (ys : List ℕ) (n : ℕ) → n ≡ length ys → paste xs at ys n ≡ overwrite xs at ys

@@ -1,6 +1,5 @@
 -- Decimal numbers as bytes, after document 01: `Instance text` and `The listing program`.
-use Rattle.std.specs.Prelude.{Bool, true, cond, ◌&&◌, List, [], ◌∷◌, ◌++◌, ℕ, zero, suc, ◌+◌, ◌-◌, ◌*◌, ◌/◌, ◌%◌, ltb, leb, ℤ, pos, negsuc, nat_abs, length}
-use Rattle.decimal.specs.declared.Numeral.{Numeral}
+use Rattle.std.specs.Prelude.{Bool, true, cond, ◌&&◌, List, [], ◌∷◌, ◌++◌, ℕ, zero, suc, ◌+◌, ◌-◌, ◌*◌, ◌/◌, ◌%◌, ltb, leb, ℤ, pos, negsuc, nat_abs, length, Option, Some, None}
 
 -- ---- numbers written
 
@@ -55,6 +54,6 @@ digits_value acc (b ∷ bs) = digits_value (acc * 10 + (b - 48)) bs
 unfoldable pub is_numeral : List ℕ → Bool
 is_numeral w = (leb 1 (length w) && leb (length w) max_digits) && all_digits w
 
--- what reading a word as a numeral finds: whether it is one, and its value, or 0
-abbrev pub read_numeral : List ℕ → Numeral
-read_numeral w = record { ok = is_numeral w; value = cond (is_numeral w) (digits_value 0 w) 0 }
+-- what reading a word as a numeral finds: its value, if it is one
+abbrev pub read_numeral : List ℕ → Option ℕ
+read_numeral w = cond (is_numeral w) (Some (digits_value 0 w)) None

@@ -10,17 +10,8 @@ ghost use Rattle.decimal.specs.Decimal.{decimal, digit_byte, integer, signed, si
 
 use integers::magnitude;
 
-// What reading a word as a numeral finds: whether it is one, and its value, 0 if not.
-#[derive(Drop)]
-pub struct Numeral {
-    pub ok: bool,
-    pub value: u64,
-}
-
-impl Numeral {
-    // The most digits of a numeral.
-    pub const MAX_DIGITS: usize = 10;
-}
+// The most digits of a numeral.
+pub const MAX_DIGITS: usize = 10;
 
 // ---- Lengths
 
@@ -77,12 +68,9 @@ pub fn put_bytes(out: &mut [u8], at: usize, bytes: &[u8]) -> usize
     ensures left { out.new ≡ overwrite out.old at bytes.now }
     ensures next { result ≡ at + length bytes.now }
 {
-    let mut i = 0;
-    while i < bytes.len() {
-        out[at + i] = bytes[i];
-        i += 1;
-    }
-    at + i
+    let end = at + bytes.len();
+    out[at..end].copy_from_slice(bytes);
+    end
 }
 
 // The byte of a digit.
@@ -141,7 +129,7 @@ pub fn put_signed(out: &mut [u8], at: usize, x: i64) -> usize
 pub fn is_digit(b: u8) -> bool
     ensures { result ≡ is_digit b }
 {
-    b'0' <= b && b <= b'9'
+    b.is_ascii_digit()
 }
 
 // The value of a digit byte.
@@ -149,41 +137,26 @@ fn digit_value(b: u8) -> u64
     requires { 48 ≤ b }
     ensures { result ≡ b - 48 }
 {
-    (b - b'0') as u64
+    u64::from(b - b'0')
 }
 
 // Reads a word of 1 to 10 digits; leading zeros are allowed.
 // Rules out: taking an empty word, a sign, or an eleventh digit; a value for a word that is not a numeral.
-pub fn read_numeral(word: &[u8]) -> Numeral
+pub fn read_numeral(word: &[u8]) -> Option<u64>
     ensures { result ≡ read_numeral word.now }
 {
-    if word.len() < 1 {
-        return Numeral {
-            ok: false,
-            value: 0,
-        };
+    if word.is_empty() {
+        return None;
     }
-    if Numeral::MAX_DIGITS < word.len() {
-        return Numeral {
-            ok: false,
-            value: 0,
-        };
+    if MAX_DIGITS < word.len() {
+        return None;
     }
     let mut value: u64 = 0;
-    let mut i = 0;
-    while i < word.len() {
-        let b = word[i];
+    for &b in word {
         if !is_digit(b) {
-            return Numeral {
-                ok: false,
-                value: 0,
-            };
+            return None;
         }
         value = value * 10 + digit_value(b);
-        i += 1;
     }
-    Numeral {
-        ok: true,
-        value: value,
-    }
+    Some(value)
 }

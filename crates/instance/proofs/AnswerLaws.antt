@@ -4,8 +4,8 @@ use mathlib.Core.List.{List}
 use Prim.Native.Nat.{ℕ}
 use lib.IntN.{ℤ}
 use Rattle.instance.specs.Answers.{SizesOf, CheckedAs}
-use Rattle.instance.specs.declared.tables.Checked.{Checked}
-use Rattle.instance.specs.declared.tables.Checked.TheVariants.{Sizes, Refused}
+use Rattle.std.specs.Prelude.{Result, Ok, Err}
+use Rattle.refusals.specs.declared.NotInstance.{NotInstance}
 use Rattle.instance.specs.declared.tables.Instance.{Instance as Sized}
 
 abbrev sized : ℕ → ℕ → ℕ → ℕ → Sized
@@ -18,8 +18,8 @@ sizes-unique {s = s} {t = t} a b =
     ∙ (ap (λ (n : ℕ). sized t.objectives t.rows n s.variables) (a.terms ∙ sym b.terms)
     ∙ ap (sized t.objectives t.rows t.terms) (a.variables ∙ sym b.variables)))
 
-pub checked-unique : (ts rs : List ℤ) (a b : Checked) → CheckedAs ts rs a → CheckedAs ts rs b → a ≡ b
-checked-unique ts rs (Sizes s) (Sizes t) p q = ap Sizes (sizes-unique p q)
-checked-unique ts rs (Sizes s) Refused p q = absurd (q p.is)
-checked-unique ts rs Refused (Sizes t) p q = absurd (p q.is)
-checked-unique ts rs Refused Refused p q = refl
+pub checked-unique : (ts rs : List ℤ) (a b : Result Sized NotInstance) → CheckedAs ts rs a → CheckedAs ts rs b → a ≡ b
+checked-unique ts rs (Ok s) (Ok t) p q = ap Ok (sizes-unique p q)
+checked-unique ts rs (Ok s) (Err e) p q = absurd (q p.is)
+checked-unique ts rs (Err e) (Ok t) p q = absurd (p q.is)
+checked-unique ts rs (Err e) (Err f) p q = refl

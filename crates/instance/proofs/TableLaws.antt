@@ -6,11 +6,14 @@ use native.Mathlib.Decide.{dec_lt}
 use native.Mathlib.Omega.{arith}
 use borrow.Author.Count.{below_more}
 use lib.IntN.{ℤ, pos, nat_abs}
-use lib.ListN.{get_or}
+use lib.ListN.{get_or, length}
+use Rattle.std.specs.Prelude.{All, slice_range}
+use Rattle.std.proofs.lemmas.List.{get_or_default}
+use Rattle.std.proofs.lemmas.List.Edits.{get_or-between, length-between}
 use native.Mathlib.Numerals.{add-one}
 use Rattle.instance.specs.Limits.{max_entries}
 use Rattle.instance.specs.Lists.{run}
-use Rattle.instance.specs.Tables.{ZeroFrom, EntryOk, terms_before, count_at, is_row, objectives_in, rows_in}
+use Rattle.instance.specs.Tables.{ZeroFrom, EntryOk, terms_before, count_at, is_row, objectives_in, rows_in, entries_in}
 use Rattle.instance.specs.Parts.{EntriesOk, EntryPlaced}
 
 -- ---- ZeroFrom
@@ -63,3 +66,23 @@ entries-placed {rs} {n} o k h = record {
 -- The number of rows that is counted from the last objective on.
 pub rows_in-from : (rs : List ℤ) (m r : ℕ) → m ≡ objectives_in rs → r ≡ run (is_row rs) m (max_entries - m) → r ≡ rows_in rs
 rows_in-from rs m r e h = h ∙ ap (λ (k : ℕ). run (is_row rs) k (max_entries - k)) e
+
+-- All entries, where the rows are counted from the last objective on.
+pub entries_in-from : (rs : List ℤ) (m r : ℕ) → m ≡ objectives_in rs → r ≡ run (is_row rs) m (max_entries - m) → m + r ≡ entries_in rs
+entries_in-from rs m r e h = ap (λ (n : ℕ). n + r) e ∙ ap (λ (n : ℕ). objectives_in rs + n) (rows_in-from rs m r e h)
+
+-- ---- a part that is zero
+-- All numbers of the part from a up to b are 0, exactly where they are in the table.
+pub part-zero : (xs : List ℤ) (a b : ℕ) → b ≤ length xs → All (λ (z : ℤ). z ≡ pos 0) (slice_range xs a b) → ZeroFrom xs a b
+part-zero xs a b r h i l m =
+    let e : a + (i - a) ≡ i = omega arith in
+    ap (λ (j : ℕ). get_or xs j (pos 0)) (sym e)
+    ∙ sym (get_or-between xs a b (i - a) (pos 0) (omega arith))
+    ∙ h (i - a) (pos 0) (omega (arith, length-between xs a b r))
+
+pub zero-part : (xs : List ℤ) (a b : ℕ) → b ≤ length xs → ZeroFrom xs a b → All (λ (z : ℤ). z ≡ pos 0) (slice_range xs a b)
+zero-part xs a b r h k d l =
+    let n : length (slice_range xs a b) ≡ b - a = length-between xs a b r in
+    get_or-between xs a b k d (omega arith)
+    ∙ get_or_default xs (a + k) d (pos 0) (omega arith)
+    ∙ h (a + k) (omega arith) (omega arith)

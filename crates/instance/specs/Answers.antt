@@ -1,9 +1,8 @@
 -- Document 01, 'Refusal numbers': what the check of tables answers.
-use Rattle.std.specs.Prelude.{◌≡◌, List, ℕ, ℤ}
+use Rattle.std.specs.Prelude.{◌≡◌, List, ℕ, ℤ, Result, Ok, Err}
 use Rattle.instance.specs.Tables.{objectives_in, rows_in, terms_in, IsInstance}
 use Rattle.instance.specs.Meaning.{meaning}
-use Rattle.instance.specs.declared.tables.Checked.{Checked}
-use Rattle.instance.specs.declared.tables.Checked.TheVariants.{Sizes, Refused}
+use Rattle.refusals.specs.declared.NotInstance.{NotInstance}
 use Rattle.instance.specs.declared.tables.Instance.{Instance as Sized}
 
 -- The tables are an instance, and s has its sizes.
@@ -15,11 +14,11 @@ pub record SizesOf (ts rs : List ℤ) (s : Sized) : Type 0 where
   pub variables : s.variables ≡ (meaning ts rs).variables
 
 -- Tables that are an instance answer its sizes; a refusal says that they are none.
-abbrev pub CheckedAs : List ℤ → List ℤ → Checked → Type 0
-CheckedAs ts rs (Sizes s) = SizesOf ts rs s
-CheckedAs ts rs Refused = IsInstance ts rs → ⊥
+abbrev pub CheckedAs : List ℤ → List ℤ → Result Sized NotInstance → Type 0
+CheckedAs ts rs (Ok s) = SizesOf ts rs s
+CheckedAs ts rs (Err e) = IsInstance ts rs → ⊥
 
 -- The number of each answer: 0 for done, 10 for tables that are not an instance.
-abbrev pub checked_number : Checked → ℕ
-checked_number (Sizes s) = 0
-checked_number Refused = 10
+abbrev pub checked_number : Result Sized NotInstance → ℕ
+checked_number (Ok s) = 0
+checked_number (Err e) = 10

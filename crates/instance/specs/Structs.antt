@@ -1,6 +1,7 @@
 -- The code's structs, as what they stand for: a term, an entry, and the limits.
 use Rattle.std.specs.Prelude.{◌≡◌, List, ℕ, ◌+◌, ◌*◌, ◌<◌, T, ℤ, nat_abs, length}
 use Rattle.std.specs.Int.Signed.{non_neg}
+use Rattle.instance.specs.Kinds.{number_of}
 use Rattle.instance.specs.Limits.{max_objectives, max_rows, max_terms, max_entries, max_variable, max_coef, max_bound, term_room, row_room}
 use Rattle.instance.specs.Terms.{Term}
 use Rattle.instance.specs.Rows.{Entry}
@@ -16,7 +17,7 @@ term_of t = record { coef = t.coef; lit = t.lit }
 
 -- The entry whose numbers the code has in e.
 abbrev pub entry_of : List ℤ → EntryNumbers → Entry
-entry_of ts e = record { kind = e.kind; terms = terms_at ts e.first e.count; bound = e.bound }
+entry_of ts e = record { kind = number_of e.kind; terms = terms_at ts e.first e.count; bound = e.bound }
 
 -- Entry k stands in the table, and its kind, first index and count are not negative.
 pub record EntryFine (rs : List ℤ) (k : ℕ) : Type 0 where
@@ -27,7 +28,7 @@ pub record EntryFine (rs : List ℤ) (k : ℕ) : Type 0 where
 
 -- e has the four numbers of entry k.
 pub record EntryIs (rs : List ℤ) (k : ℕ) (e : EntryNumbers) : Type 0 where
-  pub kind : e.kind ≡ nat_abs (kind_at rs k)
+  pub kind : number_of e.kind ≡ nat_abs (kind_at rs k)
   pub first : e.first ≡ nat_abs (first_at rs k)
   pub count : e.count ≡ nat_abs (count_at rs k)
   pub bound : e.bound ≡ bound_at rs k

@@ -4,8 +4,6 @@ ghost use Rattle.std.specs.Int.Signed.{non_neg};
 ghost use Rattle.instance.specs.Tables.{is_kind};
 ghost use Rattle.instance.specs.Tests.{Decides, UpTo};
 
-use integers::magnitude;
-
 // A number that is not negative.
 pub fn natural(x: i64) -> usize
     requires { T (non_neg x) }
@@ -18,25 +16,19 @@ pub fn natural(x: i64) -> usize
 pub fn magnitude32(x: i32) -> u64
     ensures { result ≡ nat_abs x }
 {
-    magnitude(x as i64)
+    u64::from(x.unsigned_abs())
 }
 
 // Whether x is the number n.
 pub fn equals(n: usize, x: i64) -> bool
     ensures { result ≡ is_kind n x }
 {
-    if x < 0 { false } else { natural(x) == n }
+    usize::try_from(x) == Ok(n)
 }
 
 // Whether x is one of 0, 1, .., most.
 pub fn up_to(most: usize, x: i64) -> bool
     ensures { Decides result (UpTo most x) }
 {
-    if x < 0 {
-        return false;
-    }
-    if most < natural(x) {
-        return false;
-    }
-    true
+    usize::try_from(x).is_ok_and(|n| n <= most)
 }

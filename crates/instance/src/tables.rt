@@ -1,25 +1,19 @@
 // Whole tables: whether they are an instance, and its sizes (document 01, 'Instance tables').
 ghost use Rattle.instance.specs.Answers.{CheckedAs};
 
-use crate::counts::{Total, no_bounds, objectives_of, rows_of, total_of};
+use crate::counts::{no_bounds, objectives_of, rows_of, total_of};
 use crate::entries::Entry;
-use crate::terms::{Named, Term, highest_of};
-use crate::zeros::{zero_rows, zero_terms};
+use crate::terms::{Term, highest_of};
+use crate::zeros::all_are;
+use refusals::NotInstance;
 
 // The sizes of an instance: objectives, rows and terms, and the highest variable named.
-#[derive(Drop)]
+#[derive(Clone, Copy, Debug, PartialEq, Eq)]
 pub struct Instance {
     pub objectives: usize,
     pub rows: usize,
     pub terms: usize,
     pub variables: u64,
-}
-
-// The answer to whether tables are an instance.
-#[derive(Drop)]
-pub enum Checked {
-    Sizes(Instance), // done: they are
-    Refused, // 10: tables are not an instance
 }
 
 impl Instance {
@@ -40,43 +34,41 @@ impl Instance {
     // Refuses 10 where they are not.
     // Leaves both tables as found; numbers beyond the room are not read.
     // Rules out: refusing an instance; taking tables with a fifth objective, a literal 0 or a number left over.
-    pub fn of(terms: &[i32], rows: &[i64]) -> Checked
+    pub fn of(terms: &[i32], rows: &[i64]) -> Result<Instance, NotInstance>
         ensures { CheckedAs terms.now rows.now result }
     {
         if terms.len() < Instance::TERM_ROOM {
-            return Checked::Refused;
+            return Err(NotInstance);
         }
         if rows.len() < Instance::ROW_ROOM {
-            return Checked::Refused;
+            return Err(NotInstance);
         }
         let objectives = objectives_of(rows);
         if objectives < 1 {
-            return Checked::Refused;
+            return Err(NotInstance);
         }
         if Instance::MAX_OBJECTIVES < objectives {
-            return Checked::Refused;
+            return Err(NotInstance);
         }
         let count = rows_of(rows, objectives);
         if Instance::MAX_ROWS < count {
-            return Checked::Refused;
+            return Err(NotInstance);
         }
         let used = objectives + count;
-        if !zero_rows(rows, used * Entry::NUMBERS) {
-            return Checked::Refused;
+        let unused = &rows[used * Entry::NUMBERS..Instance::ROW_ROOM];
+        if !all_are(unused, 0) {
+            return Err(NotInstance);
         }
         if !no_bounds(rows, objectives) {
-            return Checked::Refused;
+            return Err(NotInstance);
         }
-        let Total::Terms(total) = total_of(rows, used) else {
-            return Checked::Refused;
-        };
-        let Named::Highest(variables) = highest_of(terms, total) else {
-            return Checked::Refused;
-        };
-        if !zero_terms(terms, total * Term::NUMBERS) {
-            return Checked::Refused;
+        let total = total_of(rows, used).ok_or(NotInstance)?;
+        let variables = highest_of(terms, total).ok_or(NotInstance)?;
+        let rest = &terms[total * Term::NUMBERS..Instance::TERM_ROOM];
+        if !all_are(rest, 0) {
+            return Err(NotInstance);
         }
-        Checked::Sizes(Instance {
+        Ok(Instance {
             objectives,
             rows: count,
             terms: total,

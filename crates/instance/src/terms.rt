@@ -1,5 +1,5 @@
 // Terms: two numbers for a term, coefficient and literal (document 01, 'Instance tables').
-ghost use Rattle.std.specs.Prelude.{◌≡◌, ◌+◌, ◌*◌, ◌≤◌, ◌<◌, max, nat_abs, length};
+ghost use Rattle.std.specs.Prelude.{◌≡◌, ◌+◌, ◌*◌, ◌≤◌, ◌<◌, nat_abs, length};
 ghost use Rattle.instance.specs.Terms.{TermOk};
 ghost use Rattle.instance.specs.Tables.{term_at};
 ghost use Rattle.instance.specs.Tests.{Decides};
@@ -9,7 +9,7 @@ ghost use Rattle.instance.specs.Structs.{term_of};
 use crate::signed::magnitude32;
 
 // A coefficient and a literal, i for xi and -i for ~xi.
-#[derive(Clone, Copy)]
+#[derive(Clone, Copy, Debug, PartialEq, Eq)]
 pub struct Term {
     pub coef: i32,
     pub lit: i32,
@@ -46,47 +46,24 @@ impl Term {
         ensures { Decides result (TermOk (term_of self)) }
     {
         let v = self.variable();
-        if Term::MAX_COEF < magnitude32(self.coef) {
-            return false;
-        }
-        if v < 1 {
-            return false;
-        }
-        if Term::MAX_VARIABLE < v {
-            return false;
-        }
-        true
+        magnitude32(self.coef) <= Term::MAX_COEF
+            && 1 <= v
+            && v <= Term::MAX_VARIABLE
     }
 }
 
-// The higher of two variables.
-fn higher(a: u64, b: u64) -> u64
-    ensures { result ≡ max a b }
-{
-    if a < b { b } else { a }
-}
-
-// What the terms name: the highest variable, or one of them is not in range.
-#[derive(Drop)]
-pub enum Named {
-    Highest(u64),
-    Refused,
-}
-
 // The highest variable that the first n terms name, where all of them are in range.
-pub fn highest_of(terms: &[i32], n: usize) -> Named
+pub fn highest_of(terms: &[i32], n: usize) -> Option<u64>
     requires { n * 2 ≤ length terms.now }
     ensures { NamedIn terms.now n result }
 {
     let mut top: u64 = 0;
-    let mut k: usize = 0;
-    while k < n {
+    for k in 0..n {
         let t = Term::at(terms, k);
         if !t.in_range() {
-            return Named::Refused;
+            return None;
         }
-        top = higher(top, t.variable());
-        k = k + 1;
+        top = top.max(t.variable());
     }
-    Named::Highest(top)
+    Some(top)
 }

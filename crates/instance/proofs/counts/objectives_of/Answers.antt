@@ -1,8 +1,8 @@
 use mathlib.Core.Path.{◌≡◌, sym, ap, ◌∙◌}
-use Prim.Native.Nat.{◌+◌}
+use Prim.Native.Nat.{ℕ, ◌+◌}
 use native.Mathlib.Omega.{arith}
-use Rattle.instance.specs.Tables.{is_objective}
 use Rattle.instance.proofs.ListLaws.{passed_none, passed-more, passed-stop, passed-all}
+use Rattle.instance.specs.Tables.{is_objective}
 use Rattle.instance.proofs.counts.objectives_of.Goals.{After-is_objective}
 use Rattle.instance.proofs.counts.objectives_of.Goals as goal
 
@@ -19,9 +19,7 @@ pub returns-then-not-is_objective : goal.returns-then-not-is_objective
 returns-then-not-is_objective c = passed-stop c.loop-k.invariant (tested (goal.at.returns-then-not-is_objective c).After-is_objective ∙ c.if-not-is_objective.true)
 
 pub loop-k-preserved : goal.loop-k-preserved
-loop-k-preserved c =
-    passed-more c.loop-k.invariant c.loop-k-test.true
-    (tested (goal.at.loop-k-preserved c).After-is_objective ∙ c.if-not-is_objective.false)
+loop-k-preserved c = passed-more c.loop-k.invariant (omega arith) (tested (goal.at.loop-k-preserved c).After-is_objective ∙ c.if-not-is_objective.false)
 
 pub returns : goal.returns
-returns c = passed-all c.loop-k.invariant c.loop-k-test.false
+returns c = let e : 260 ≡ c.loop-k.k = omega arith in e ∙ passed-all c.loop-k.invariant (omega arith)

@@ -1,0 +1,2 @@
+-- What answers have in common: their numbers.
+pub mod Numbers
