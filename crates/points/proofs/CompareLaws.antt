@@ -2,12 +2,11 @@
 use mathlib.Core.Path.{◌≡◌, refl, sym, ap, ap₂, subst, ◌∙◌}
 use mathlib.Core.Bool.{Bool, true, false, cond, ◌&&◌}
 use mathlib.Core.List.{List, [], ◌∷◌}
-use Prim.Native.Nat.{ℕ, zero, suc, ◌*◌, ◌≤◌, ◌<◌}
-use native.Mathlib.Nat.{zero-mul}
+use Prim.Native.Nat.{ℕ, ◌*◌, ◌≤◌, ◌<◌}
 use native.Mathlib.Omega.{arith}
 use lib.IntN.{ℤ, pos}
 use lib.ListN.{length, get_or, take, drop, length-drop}
-use Rattle.std.proofs.lemmas.List.{drop-drop, get_or-drop}
+use Rattle.std.proofs.lemmas.List.{get_or-drop}
 use lib.Signed.{lt_z, le_z}
 use Rattle.std.specs.declared.option.Option.TheVariants.{Some}
 use Rattle.std.specs.declared.cmp.Ordering.{Ordering}
@@ -17,6 +16,7 @@ use Rattle.std.specs.Cmp.Lexicographic.{slice_partial_cmp}
 use Rattle.std.specs.List.{list_all, zip, IsAllAdjacentAnswer}
 use Rattle.std.specs.Simd.{first_chunks}
 use Rattle.std.proofs.lemmas.Cmp.{same_from_slice_cmp_tested}
+use Rattle.instance.proofs.ChunkLaws.{chunk-at}
 use Rattle.points.specs.Vectors.{le_all, lex}
 use Rattle.instance.specs.Tests.{Decides}
 use Rattle.instance.proofs.TestLaws.{holds, fails}
@@ -43,16 +43,6 @@ le_all-zip (x ∷ xs) [] e = absurd (omega arith)
 le_all-zip (x ∷ xs) (y ∷ ys) e = ap (λ (t : Bool). le_z x y && t) (le_all-zip xs ys (omega arith))
 
 -- ---- parts of a run
-pub length-chunks : {X : Type 0} → (n m : ℕ) (xs : List X) → length (first_chunks n m xs) ≡ m
-length-chunks n zero xs = refl
-length-chunks n (suc m) xs = ap suc (length-chunks n m (drop n xs))
-
-pub chunk-at : {X : Type 0} → (n m : ℕ) (xs : List X) (k : ℕ) → k < m → get_or (first_chunks n m xs) k [] ≡ take n (drop (k * n) xs)
-chunk-at n zero xs k h = absurd (omega arith)
-chunk-at n (suc m) xs zero h = ap (λ (i : ℕ). take n (drop i xs)) (sym (zero-mul n))
-chunk-at n (suc m) xs (suc k) h =
-    chunk-at n m (drop n xs) k (omega arith) ∙ ap (take n) (drop-drop (k * n) n xs ∙ ap (λ (i : ℕ). drop i xs) (omega arith))
-
 take-four : (xs : List ℤ) → 4 ≤ length xs → take 4 xs ≡ values_at xs 0
 take-four [] h = absurd (omega arith)
 take-four (a ∷ []) h = absurd (omega arith)

@@ -12,7 +12,8 @@ use Rattle.points.specs.Vectors.{le_all, lex}
 use Rattle.points.specs.Limits.{max_points, max_bits}
 use Rattle.instance.specs.Limits.{max_objectives}
 use Rattle.points.specs.Lists.{values_at, Fine, ValuesFine, BitsBelow, RowsRise, RisingAt, RowsApart, Apart, Proper}
-use Rattle.points.proofs.CompareLaws.{length-chunks, row-values}
+use Rattle.instance.proofs.ChunkLaws.{length-chunks}
+use Rattle.points.proofs.CompareLaws.{row-values}
 use Rattle.points.proofs.ListLaws.{apart_none, none_apart}
 
 module _ (vs : List ℤ) (count : ℕ) (rows : List (List ℤ)) (e : rows ≡ first_chunks 4 (length vs / 4) vs) (l : count ≤ length rows) where
