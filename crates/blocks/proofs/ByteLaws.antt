@@ -50,3 +50,7 @@ bits-signed u l = by (dec_lt u (2 ^ 63))
     by : Dec (u < 2 ^ 63) → bits_of (signed_of u) ≡ u
     by (yes h) = ap bits_of (pick_pos u h)
     by (no h) = ap bits_of (signed_high u (omega arith)) ∙ omega arith
+
+pub bits-small : (z : ℤ) → nat_abs z ≤ 2 ^ 63 → bits_of z < 256 ^ 8
+bits-small (pos n) h = omega arith
+bits-small (negsuc n) h = omega arith

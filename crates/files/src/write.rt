@@ -5,18 +5,11 @@ ghost use Rattle.files.specs.Layout.{blocks_for};
 ghost use Rattle.files.specs.Put.{BlocksPut};
 ghost use Rattle.files.specs.Written.{WrittenAs};
 
+use crate::errors::WriteFileError;
 use crate::put::{set_head, set_points};
 use crate::sizes::blocks_for;
 use blocks::Block;
 use points::is_proper;
-
-// The answer of writing a file.
-#[derive(Drop)]
-pub enum FileWritten {
-    Done(u64), // done: the bytes written
-    NotProper, // 14: list not proper
-    ShortOutput, // 13: lent output shorter than what this answer would fill
-}
 
 // Writes the point blocks of a list, each into its own 512 bytes.
 fn set_blocks(file: &mut [u8], points: usize, values: &[i64], models: &[u64])
@@ -26,17 +19,14 @@ fn set_blocks(file: &mut [u8], points: usize, values: &[i64], models: &[u64])
     requires points_in_bounds_3 { points ≤ length models.now }
     ensures { BlocksPut file.old points values.now models.now (blocks_for points) file.new }
 {
-    let blocks = blocks_for(points);
-    let mut b: usize = 1;
-    while b < blocks {
+    for b in 1..blocks_for(points) {
         let at = b * Block::LEN;
         let end = at + Block::LEN;
         set_points(&mut file[at..end], b, points, values, models);
-        b = b + 1;
     }
 }
 
-// Writes the first `points` points of the lent runs as a front file at the beginning of the lent bytes.
+// Writes the first `points` points of the lent runs as a front file at the beginning of the lent bytes; answers the bytes written.
 // Refuses 14 where the list is not proper, then 13 where the lent bytes are too few.
 // Leaves the runs as found; on done exactly the bytes written change, on a refusal none.
 // Rules out: leaving out the last block; filing a list that is not proper; a check or a number in another order of bytes.
@@ -47,18 +37,18 @@ pub fn write_file(
     values: &[i64],
     models: &[u64],
     file: &mut [u8],
-) -> FileWritten
+) -> Result<u64, WriteFileError>
     ensures { WrittenAs objectives n points values.now models.now file.old file.new result }
 {
     if !is_proper(objectives, n, points, values, models) {
-        return FileWritten::NotProper;
+        return Err(WriteFileError::NotProper);
     }
     let count = points as usize;
     let bytes = blocks_for(count) * Block::LEN;
     if file.len() < bytes {
-        return FileWritten::ShortOutput;
+        return Err(WriteFileError::ShortOutput);
     }
     set_head(&mut file[..Block::LEN], objectives, n, points);
     set_blocks(file, count, values, models);
-    FileWritten::Done(bytes as u64)
+    Ok(bytes as u64)
 }

@@ -2,7 +2,7 @@
 use mathlib.Core.Path.{◌≡◌, refl, sym, ap, ap₂, subst, ◌∙◌}
 use mathlib.Core.Bool.{Bool, true, false, cond, ◌&&◌}
 use mathlib.Core.List.{List, [], ◌∷◌}
-use Prim.Native.Nat.{ℕ, ◌*◌, ◌≤◌, ◌<◌}
+use Prim.Native.Nat.{ℕ, zero, suc, ◌+◌, ◌*◌, ◌≤◌, ◌<◌}
 use native.Mathlib.Omega.{arith}
 use lib.IntN.{ℤ, pos}
 use lib.ListN.{length, get_or, take, drop, length-drop}
@@ -57,6 +57,13 @@ row-values vs m k h l =
     ∙ ap₂ ◌∷◌ (get_or-drop (k * 4) vs 0 (pos 0) ∙ ap (λ (i : ℕ). get_or vs i (pos 0)) (omega arith))
     (ap₂ ◌∷◌ (get_or-drop (k * 4) vs 1 (pos 0))
     (ap₂ ◌∷◌ (get_or-drop (k * 4) vs 2 (pos 0)) (ap (λ (z : ℤ). z ∷ []) (get_or-drop (k * 4) vs 3 (pos 0))))))
+
+pub value-of : (vs : List ℤ) (k i : ℕ) → i < 4 → get_or (values_at vs k) i (pos 0) ≡ get_or vs (k * 4 + i) (pos 0)
+value-of vs k zero h = let e : k * 4 ≡ k * 4 + 0 = omega arith in ap (λ (j : ℕ). get_or vs j (pos 0)) e
+value-of vs k (suc zero) h = refl
+value-of vs k (suc (suc zero)) h = refl
+value-of vs k (suc (suc (suc zero))) h = refl
+value-of vs k (suc (suc (suc (suc i)))) h = absurd (omega arith)
 
 -- ---- neighbours
 pub rises : (rows : List (List ℤ)) (r : Bool) → IsAllAdjacentAnswer (λ x y b. b ≡ lex x y) rows r → Decides r (RowsRise rows)
