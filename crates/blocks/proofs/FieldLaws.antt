@@ -1,11 +1,15 @@
 -- Numbers stored in a block are read back, and all other bytes stay.
 use mathlib.Core.Path.{◌≡◌, refl, sym, ap, ap₂, ◌∙◌}
-use mathlib.Core.List.{List}
+use mathlib.Core.List.{List, [], ◌∷◌, ◌++◌, append_assoc}
 use Prim.Native.Nat.{ℕ, zero, suc, ◌+◌, ◌*◌, ◌/◌, ◌%◌, ◌^◌, ◌≤◌, ◌<◌}
 use native.Mathlib.Decide.{dec_lt}
-use native.Mathlib.Nat.{lt_of_lt_of_le, pow-suc, pow-le-pow_right}
+use native.Mathlib.Nat.{lt_of_lt_of_le, div-div-eq-div-mul, pow-succ', pow-suc, pow-le-pow_right}
 use native.Mathlib.Omega.{arith}
 use lib.ListN.{length, get_or, set, take, drop, replicate, length-take, length-set, length-replicate, get_or-replicate, get_or-eq_default}
+use lib.ListN.{take-append-drop}
+use Rattle.std.specs.Int
+use Rattle.std.specs.Int.{bytes_high_first}
+use Rattle.std.proofs.lemmas.List.{take-set-le, drop-set}
 use lib.Seq.{get_or-drop, get_or-take, get_or-set_same, get_or-set_other}
 use Rattle.blocks.specs.Fields.{byte_at, number_at, put}
 
@@ -69,6 +73,39 @@ put-same (suc n) bs at x h l =
     put-after n b at (x / 256) (at + n) (omega arith) ∙ get_or-set_same bs (at + n) (x % 256) 0 (omega arith)
     in
     omega (arith, low, put-same n b at (x / 256) high (omega (arith, length-set bs (at + n) (x % 256))))
+
+-- ---- the bytes of a number, as the library has them
+byte-up : (m x : ℕ) → Int.byte_at (suc m) x ≡ Int.byte_at m (x / 256)
+byte-up zero x = refl
+byte-up (suc k) x =
+    ap (λ (d : ℕ). d % 256) (ap (λ (e : ℕ). x / e) (pow-succ' 256 (suc k)) ∙ sym (div-div-eq-div-mul x 256 (256 ^ suc k)))
+
+bytes-snoc : (n x : ℕ) → bytes_high_first (suc n) x ≡ bytes_high_first n (x / 256) ++ (x % 256 ∷ [])
+bytes-snoc zero x = refl
+bytes-snoc (suc m) x = ap₂ ◌∷◌ (byte-up m x) (bytes-snoc m x)
+
+pub bytes-length : (n x : ℕ) → length (bytes_high_first n x) ≡ n
+bytes-length zero x = refl
+bytes-length (suc n) x = ap suc (bytes-length n x)
+
+pub bytes-tail : (d n x : ℕ) → drop d (bytes_high_first (d + n) x) ≡ bytes_high_first n x
+bytes-tail zero n x = let e : 0 + n ≡ n = omega arith in ap (λ (m : ℕ). bytes_high_first m x) e
+bytes-tail (suc d) n x =
+    let e : suc d + n ≡ suc (d + n) = omega arith in ap (λ (m : ℕ). drop (suc d) (bytes_high_first m x)) e ∙ bytes-tail d n x
+
+pub put-bytes : (n : ℕ) (bs : List ℕ) (at x : ℕ) → at + n ≤ length bs → put n bs at x ≡ take at bs ++ (bytes_high_first n x ++ drop (at + n) bs)
+unfolding put
+put-bytes zero bs at x h =
+    let e : at ≡ at + 0 = omega arith in sym (take-append-drop at bs) ∙ ap (λ (m : ℕ). take at bs ++ drop m bs) e
+put-bytes (suc n) bs at x h =
+    let v = x % 256 in
+    let b = set bs (at + n) v in
+    let e : at + n + 1 ≡ at + suc n = omega arith in
+    put-bytes n b at (x / 256) (omega (arith, length-set bs (at + n) v))
+    ∙ ap₂ (λ (l r : List ℕ). l ++ r) (take-set-le at bs (at + n) v (omega arith))
+    (ap (λ (r : List ℕ). bytes_high_first n (x / 256) ++ r) (drop-set bs (at + n) v (omega arith))
+    ∙ (sym (append_assoc (bytes_high_first n (x / 256)) (v ∷ []) (drop (at + n + 1) bs))
+    ∙ ap₂ (λ (l : List ℕ) (m : ℕ). l ++ drop m bs) (sym (bytes-snoc n x)) e))
 
 -- ---- a number beside one that is stored
 module _ (m n : ℕ) (bs : List ℕ) (at x f : ℕ) where

@@ -26,15 +26,12 @@ pub fn get_signed(block: &[u8], at: usize) -> i64
 
 // Stores a number of N bytes.
 pub fn set<const N: usize>(block: &mut [u8], at: usize, number: u64)
+    requires width { N ≤ 8 }
     requires at_in_bounds { at + N ≤ length block.old }
     requires number_bound { number < 256 ^ N }
     ensures { block.new ≡ put N block.old at number }
 {
-    let mut rest = number;
-    for i in (at..at + N).rev() {
-        block[i] = (rest % 256) as u8;
-        rest /= 256;
-    }
+    block[at..at + N].copy_from_slice(&number.to_be_bytes()[8 - N..]);
 }
 
 // Stores a signed number of 64 bits.
