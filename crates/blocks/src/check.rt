@@ -30,8 +30,7 @@ pub fn check_of(block: &[u8]) -> u64
 }
 
 // Whether the stored check is the computed one.
-pub fn check_fits(block: &[u8]) -> bool
-    requires { length block.now ≡ block_len }
+pub fn check_fits(block: &[u8; Block::LEN]) -> bool
     ensures { Decides result (CheckFits block.now) }
 {
     get::<2>(block, 0) == check_of(block)

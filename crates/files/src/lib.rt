@@ -12,6 +12,7 @@
 
 mod sizes; // sizes.rt: the sizes of a file and where things stand
 mod errors; // errors.rt: why a file is not written or read
+mod list; // list.rt: the list that is written
 mod put; // put.rt: a list as blocks
 mod layout; // layout.rt: whether blocks are as they should be
 mod take; // take.rt: points out of blocks

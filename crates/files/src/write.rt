@@ -1,28 +1,26 @@
 // Writing a front file (document 01, 'Front file, form 1' and 'Orders').
 ghost use Rattle.std.specs.Prelude.{◌≡◌, ◌*◌, ◌≤◌, length};
-ghost use Rattle.points.specs.Limits.{max_points};
 ghost use Rattle.files.specs.Layout.{blocks_for};
 ghost use Rattle.files.specs.Put.{BlocksPut};
 ghost use Rattle.files.specs.Written.{WrittenAs};
 
 use crate::errors::WriteFileError;
+use crate::list::List;
 use crate::put::{set_head, set_points};
+use crate::read::FileHead;
 use crate::sizes::blocks_for;
 use blocks::Block;
 use points::is_proper;
 
 // Writes the point blocks of a list, each into its own 512 bytes.
-fn set_blocks(file: &mut [u8], points: usize, values: &[i64], models: &[u64])
-    requires points_le_max_points { points ≤ max_points }
-    requires points_in_bounds { blocks_for points * 512 ≤ length file.old }
-    requires points_in_bounds_2 { points * 4 ≤ length values.now }
-    requires points_in_bounds_3 { points ≤ length models.now }
-    ensures { BlocksPut file.old points values.now models.now (blocks_for points) file.new }
+fn set_blocks(file: &mut [u8], list: &List)
+    requires { blocks_for list.now.points * 512 ≤ length file.old }
+    ensures { BlocksPut file.old list.now.points list.now.values.now list.now.models.now (blocks_for list.now.points) file.new }
 {
-    for b in 1..blocks_for(points) {
+    for b in 1..blocks_for(list.points) {
         let at = b * Block::LEN;
         let end = at + Block::LEN;
-        set_points(&mut file[at..end], b, points, values, models);
+        set_points(&mut file[at..end], b, list);
     }
 }
 
@@ -43,12 +41,21 @@ pub fn write_file(
     if !is_proper(objectives, n, points, values, models) {
         return Err(WriteFileError::NotProper);
     }
-    let count = points as usize;
-    let bytes = blocks_for(count) * Block::LEN;
+    let head = FileHead {
+        objectives,
+        n,
+        points,
+    };
+    let list = List {
+        points: points as usize,
+        values,
+        models,
+    };
+    let bytes = blocks_for(list.points) * Block::LEN;
     if file.len() < bytes {
         return Err(WriteFileError::ShortOutput);
     }
-    set_head(&mut file[..Block::LEN], objectives, n, points);
-    set_blocks(file, count, values, models);
+    set_head(&mut file[..Block::LEN], head);
+    set_blocks(file, &list);
     Ok(bytes as u64)
 }

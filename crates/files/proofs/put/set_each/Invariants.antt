@@ -3,4 +3,4 @@ use Rattle.files.specs.Put.{PointsPut}
 use Rattle.files.proofs.put.set_each.Given as goal
 
 abbrev pub invariant-loop-j : goal.invariant-loop-j
-invariant-loop-j l = PointsPut l.initial.block l.first l.j l.values l.models l.block
+invariant-loop-j l = PointsPut l.initial.block l.first l.j l.list.values.now l.list.models.now l.block

@@ -10,8 +10,8 @@ use Rattle.files.proofs.put.set_head.Goals as goal
 
 pub returns : goal.returns
 returns c =
-    let e3 = c.set-3.ensures ∙ ap (λ (b : List ℕ). put 2 b 12 c.args.n) (c.set-2.ensures ∙ ap (λ (b : List ℕ). put 2 b 10 c.args.objectives) c.set.ensures) in
-    let e4 = c.set-4.ensures ∙ ap (λ (b : List ℕ). put 4 b 16 c.args.points) e3 in
+    let e3 = c.set-3.ensures ∙ ap (λ (b : List ℕ). put 2 b 12 c.args.head.n) (c.set-2.ensures ∙ ap (λ (b : List ℕ). put 2 b 10 c.args.head.objectives) c.set.ensures) in
+    let e4 = c.set-4.ensures ∙ ap (λ (b : List ℕ). put 4 b 16 c.args.head.points) e3 in
     let e = c.seal.ensures ∙ ap (λ (b : List ℕ). put 2 b 0 (check_of b)) e4 in
-    subst (HeadOf c.args.objectives c.args.n c.args.points) (sym e)
-    (head-put c.begin.new.block c.begin.ensures c.args.objectives c.args.n c.args.points c.requires.objectives_bound c.requires.n_bound c.requires.points_bound)
+    subst (HeadOf c.args.head.objectives c.args.head.n c.args.head.points) (sym e)
+    (head-put c.begin.new.block c.begin.ensures c.args.head.objectives c.args.head.n c.args.head.points c.requires.objectives_bound c.requires.n_bound c.requires.points_bound)

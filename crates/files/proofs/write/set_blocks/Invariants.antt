@@ -3,4 +3,4 @@ use Rattle.files.specs.Put.{BlocksPut}
 use Rattle.files.proofs.write.set_blocks.Given as goal
 
 abbrev pub invariant-loop-b : goal.invariant-loop-b
-invariant-loop-b l = BlocksPut l.initial.file l.points l.values l.models l.b l.file
+invariant-loop-b l = BlocksPut l.initial.file l.list.points l.list.values.now l.list.models.now l.b l.file
