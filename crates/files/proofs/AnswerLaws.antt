@@ -82,7 +82,8 @@ module _ (f : List ℕ) (vs vs' vs'' : List ℤ) (ms ms' ms'' : List ℕ) where
   read-unique (Err (BadLayout a)) (Ok b) x y = absurd (x.lowest.fails (y.sound.laid a x.lowest.inside))
   read-unique (Err (BadLayout a)) (Err BadLength) x y = absurd (y.wrong x.sized)
   read-unique (Err (BadLayout a)) (Err (BadCheck b)) x y = absurd (y.lowest.fails (x.checked b y.lowest.inside))
-  read-unique (Err (BadLayout a)) (Err (BadLayout b)) x y = (ap (λ (t : ℕ). Err (BadLayout t)) (lowest-unique x.lowest y.lowest), (x.kept.values ∙ sym y.kept.values, x.kept.models ∙ sym y.kept.models))
+  read-unique (Err (BadLayout a)) (Err (BadLayout b)) x y =
+      (ap (λ (t : ℕ). Err (BadLayout t)) (lowest-unique x.lowest y.lowest), (x.kept.values ∙ sym y.kept.values, x.kept.models ∙ sym y.kept.models))
   read-unique (Err (BadLayout a)) (Err NotProper) x y = absurd (x.lowest.fails (y.sound.laid a x.lowest.inside))
   read-unique (Err (BadLayout a)) (Err ShortOutput) x y = absurd (x.lowest.fails (y.sound.laid a x.lowest.inside))
   read-unique (Err NotProper) (Ok b) x y = absurd (x.improper y.proper)

@@ -25,15 +25,6 @@ block-length f b h = length-take-le 512 (drop (b * 512) f) (omega (arith, length
 pub part_length : (f : List ℕ) (b at end : ℕ) → at ≡ b * 512 → end ≡ at + 512 → end ≤ length f → length (take (end - at) (drop at f)) ≡ 512
 part_length f b at end e h l = ap length (part-block f b at end e h) ∙ block-length f b (omega arith)
 
--- ---- BlockFits: block 0 is the head, any other holds points
-pub fits_head : {r : Bool} (f : List ℕ) (blocks b : ℕ) → b ≡ 0 → Decides r (HeadFits (block_at f b) blocks) → Decides r (BlockFits f blocks b)
-fits_head f blocks zero e d = d
-fits_head f blocks (suc b) e d = absurd (omega arith)
-
-pub fits-points : {r : Bool} (f : List ℕ) (blocks b : ℕ) → (b ≡ 0 → ⊥) → Decides r (PointsFit (block_at f b) b (count_in (points_of (block_at f 0)) b)) → Decides r (BlockFits f blocks b)
-fits-points f blocks zero e d = absurd (e refl)
-fits-points f blocks (suc b) e d = d
-
 -- ---- a run that is filled from the front, number after number
 module _ {A : Type 0} (g : ℕ → A) (found : List A) where
   pub fill-first : found ≡ tabulate g 0 0 ++ drop 0 found

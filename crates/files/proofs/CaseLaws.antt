@@ -56,10 +56,12 @@ points-of us ls =
     let vs : List ℤ = values_t us in
     let ms : List ℕ = models_t ls in
     let b : Begun 2 1 (start 2 1) = begun 512 2 1 refl (omega arith) (omega arith) in
-    let p = point-put (start 2 1) 0 (point_at vs ms 0) b.whole (omega arith) (vector-fits (pos 1) (pos 4) (pos 0) (pos 0) (omega arith) (omega arith) (omega arith) (omega arith)) (omega arith) in
+    let f1 = vector-fits (pos 1) (pos 4) (pos 0) (pos 0) (omega arith) (omega arith) (omega arith) (omega arith) in
+    let f2 = vector-fits (pos 5) (pos 3) (pos 0) (pos 0) (omega arith) (omega arith) (omega arith) (omega arith) in
+    let p = point-put (start 2 1) 0 (point_at vs ms 0) b.whole (omega arith) f1 (omega arith) in
     let q = points-more (start 2 1) (start 2 1) first_t 0 0 vs ms (points_none (start 2 1) 0 vs ms) p in
     points-sealed (start 2 1) both_t 1 0 2 vs ms b
-    (points-more (start 2 1) first_t both_t 0 1 vs ms q (point-put first_t 1 (point_at vs ms 1) (p.whole ∙ b.whole) (omega arith) (vector-fits (pos 5) (pos 3) (pos 0) (pos 0) (omega arith) (omega arith) (omega arith) (omega arith)) (omega arith)))
+    (points-more (start 2 1) first_t both_t 0 1 vs ms q (point-put first_t 1 (point_at vs ms 1) (p.whole ∙ b.whole) (omega arith) f2 (omega arith)))
 
 file_t : List ℕ
 file_t = head_t ++ points_t

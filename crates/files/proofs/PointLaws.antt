@@ -89,9 +89,6 @@ module _ (p : List ℕ) (at a b c d m : ℕ) where
 abbrev bit_at : List ℤ → ℕ → ℕ
 bit_at xs i = bits_of (get_or xs i (pos 0))
 
-bit-fits : (xs : List ℤ) (i : ℕ) → nat_abs (get_or xs i (pos 0)) ≤ 2 ^ 63 → bit_at xs i < 256 ^ 8
-bit-fits xs i h = bits-small (get_or xs i (pos 0)) h
-
 -- Four values that fit 64 bits.
 pub vector-fits : (a b c d : ℤ) → nat_abs a ≤ 2 ^ 63 → nat_abs b ≤ 2 ^ 63 → nat_abs c ≤ 2 ^ 63 → nat_abs d ≤ 2 ^ 63
     → (i : ℕ) → i < 4 → nat_abs (get_or (a ∷ (b ∷ (c ∷ (d ∷ [])))) i (pos 0)) ≤ 2 ^ 63
@@ -105,30 +102,33 @@ module _ (p : List ℕ) (j : ℕ) (c : Candidate) (whole : length p ≡ 512) (pl
   abbrev from : ℕ
   from = 8 + j * 40
 
-  abbrev put_all : List ℕ
-  put_all = s5 p from (bit_at c.vector 0) (bit_at c.vector 1) (bit_at c.vector 2) (bit_at c.vector 3) c.model
+  abbrev bit : ℕ → ℕ
+  bit i = bit_at c.vector i
 
-  values-put : (i : ℕ) → i < 4 → u64_at put_all (from + i * 8) ≡ bit_at c.vector i
+  small_bit : (i : ℕ) → i < 4 → bit i < 256 ^ 8
+  small_bit i h = bits-small (get_or c.vector i (pos 0)) (fits i h)
+
+  abbrev put_all : List ℕ
+  put_all = s5 p from (bit 0) (bit 1) (bit 2) (bit 3) c.model
+
+  values-put : (i : ℕ) → i < 4 → u64_at put_all (from + i * 8) ≡ bit i
   values-put zero h =
       let e : from + 0 * 8 ≡ from = omega arith in
-      ap (u64_at put_all) e ∙ first p from (bit_at c.vector 0) (bit_at c.vector 1) (bit_at c.vector 2) (bit_at c.vector 3) c.model (omega arith) (bit-fits c.vector 0 (fits 0 (omega arith)))
-  values-put (suc zero) h =
-      ap (u64_at put_all) (omega arith) ∙ second p from (bit_at c.vector 0) (bit_at c.vector 1) (bit_at c.vector 2) (bit_at c.vector 3) c.model (omega arith) (bit-fits c.vector 1 (fits 1 (omega arith)))
-  values-put (suc (suc zero)) h =
-      ap (u64_at put_all) (omega arith) ∙ third p from (bit_at c.vector 0) (bit_at c.vector 1) (bit_at c.vector 2) (bit_at c.vector 3) c.model (omega arith) (bit-fits c.vector 2 (fits 2 (omega arith)))
-  values-put (suc (suc (suc zero))) h =
-      ap (u64_at put_all) (omega arith) ∙ fourth p from (bit_at c.vector 0) (bit_at c.vector 1) (bit_at c.vector 2) (bit_at c.vector 3) c.model (omega arith) (bit-fits c.vector 3 (fits 3 (omega arith)))
+      ap (u64_at put_all) e ∙ first p from (bit 0) (bit 1) (bit 2) (bit 3) c.model (omega arith) (small_bit 0 h)
+  values-put (suc zero) h = ap (u64_at put_all) (omega arith) ∙ second p from (bit 0) (bit 1) (bit 2) (bit 3) c.model (omega arith) (small_bit 1 h)
+  values-put (suc (suc zero)) h = ap (u64_at put_all) (omega arith) ∙ third p from (bit 0) (bit 1) (bit 2) (bit 3) c.model (omega arith) (small_bit 2 h)
+  values-put (suc (suc (suc zero))) h = ap (u64_at put_all) (omega arith) ∙ fourth p from (bit 0) (bit 1) (bit 2) (bit 3) c.model (omega arith) (small_bit 3 h)
   values-put (suc (suc (suc (suc i)))) h = absurd (omega arith)
 
   pub point-put : PointPut p j c put_all
   point-put = record {
-    whole = five-length p from (bit_at c.vector 0) (bit_at c.vector 1) (bit_at c.vector 2) (bit_at c.vector 3) c.model;
+    whole = five-length p from (bit 0) (bit 1) (bit 2) (bit 3) c.model;
     point = record {
       values = values-put;
-      model = fifth p from (bit_at c.vector 0) (bit_at c.vector 1) (bit_at c.vector 2) (bit_at c.vector 3) c.model (omega arith) small;
+      model = fifth p from (bit 0) (bit 1) (bit 2) (bit 3) c.model (omega arith) small;
     };
-    before = λ i h. five-before p from (bit_at c.vector 0) (bit_at c.vector 1) (bit_at c.vector 2) (bit_at c.vector 3) c.model i h;
-    after = λ i h. five-after p from (bit_at c.vector 0) (bit_at c.vector 1) (bit_at c.vector 2) (bit_at c.vector 3) c.model i (omega arith);
+    before = λ i h. five-before p from (bit 0) (bit 1) (bit 2) (bit 3) c.model i h;
+    after = λ i h. five-after p from (bit 0) (bit 1) (bit 2) (bit 3) c.model i (omega arith);
   }
 
 -- What a call that stores a signed number leaves, by the names of its arguments.

@@ -131,7 +131,8 @@ module _ {f : List ℕ} {us us' : List ℤ} {os os' : List ℕ} {a : Answer} (r 
   taken-length = omega (arith, sound-total r.sound, r.sound.sized.whole)
 
 -- Writing what reading accepted writes as many bytes as the file has, and they are the file.
-module _ {f : List ℕ} {us us' : List ℤ} {os os' : List ℕ} (found left : List ℕ) {h : FileHead} (x : ReadAs f us os us' os' (Ok h)) (hf : Bytes f) (hl : Bytes left) (room : length f ≤ length found) where
+module _ {f : List ℕ} {us us' : List ℤ} {os os' : List ℕ} (found left : List ℕ) {h : FileHead} (x : ReadAs f us os us' os' (Ok h)) (hf : Bytes f) (hl : Bytes left)
+    (room : length f ≤ length found) where
   heads : (h.objectives ≡ objectives_of (block_at f 0)) × ((h.n ≡ variables_of (block_at f 0)) × (h.points ≡ points f))
   heads = (ap (λ (a : Answer). a.objectives) x.answer, (ap (λ (a : Answer). a.variables) x.answer, ap (λ (a : Answer). a.points) x.answer))
 

@@ -61,9 +61,6 @@ module _ (f ys : List ℕ) (b : ℕ) (room : (b + 1) * 512 ≤ length f) (whole 
 
 -- ---- BlocksPut
 module _ (f : List ℕ) (points : ℕ) (vs : List ℤ) (ms : List ℕ) where
-  pub blocks-none : BlocksPut f points vs ms 1 f
-  blocks-none = record { whole = refl; written = λ b h l. absurd (omega arith); head = refl; rest = refl }
-
   pub blocks_more : (g ys : List ℕ) (b : ℕ) → 1 ≤ b → (b + 1) * 512 ≤ length f → length ys ≡ 512 → BlocksPut f points vs ms b g → PointsOf b ((b - 1) * 12) (count_in points b) vs ms ys
       → BlocksPut f points vs ms (b + 1) (put_mid (b * 512) (b * 512 + 512 - b * 512) g ys)
   blocks_more g ys b some room whole a p = record {

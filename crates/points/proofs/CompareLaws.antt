@@ -24,15 +24,18 @@ use Rattle.points.specs.Lists.{values_at, RowsRise}
 use Rattle.points.proofs.OrderLaws.{clash, lex-less, lex-more, lex-next}
 
 -- ---- lex
+-- What an answer of `cmp` says of `lex`.
+abbrev Says : ℤ → ℤ → List ℤ → List ℤ → Ordering → Type 0
+Says x y xs ys o = MatchOrdering o (lex (x ∷ xs) (y ∷ ys) ≡ true) (lex (x ∷ xs) (y ∷ ys) ≡ lex xs ys) (lex (x ∷ xs) (y ∷ ys) ≡ false)
+
 pub lex-cmp : (a b : List ℤ) (r : Bool) → r ≡ is_some_and is_lt (slice_partial_cmp (λ x y. Some (int_cmp x y)) a b) → r ≡ lex a b
 unfolding lex
 lex-cmp = same_from_slice_cmp_tested int_cmp is_lt lex refl (λ y ys. refl) (λ x xs. refl) (λ x y xs ys o h. by x y xs ys (lt_z x y) refl (lt_z y x) refl o h)
   where
-    by : (x y : ℤ) (xs ys : List ℤ) (t : Bool) → lt_z x y ≡ t → (u : Bool) → lt_z y x ≡ u → (o : Ordering) → o ≡ cond t Less (cond u Greater Equal)
-        → MatchOrdering o (lex (x ∷ xs) (y ∷ ys) ≡ true) (lex (x ∷ xs) (y ∷ ys) ≡ lex xs ys) (lex (x ∷ xs) (y ∷ ys) ≡ false)
-    by x y xs ys true e u f o h = subst (λ (q : Ordering). MatchOrdering q (lex (x ∷ xs) (y ∷ ys) ≡ true) (lex (x ∷ xs) (y ∷ ys) ≡ lex xs ys) (lex (x ∷ xs) (y ∷ ys) ≡ false)) (sym h) (lex-less x y xs ys e)
-    by x y xs ys false e true f o h = subst (λ (q : Ordering). MatchOrdering q (lex (x ∷ xs) (y ∷ ys) ≡ true) (lex (x ∷ xs) (y ∷ ys) ≡ lex xs ys) (lex (x ∷ xs) (y ∷ ys) ≡ false)) (sym h) (lex-more x y xs ys e f)
-    by x y xs ys false e false f o h = subst (λ (q : Ordering). MatchOrdering q (lex (x ∷ xs) (y ∷ ys) ≡ true) (lex (x ∷ xs) (y ∷ ys) ≡ lex xs ys) (lex (x ∷ xs) (y ∷ ys) ≡ false)) (sym h) (lex-next x y xs ys e f)
+    by : (x y : ℤ) (xs ys : List ℤ) (t : Bool) → lt_z x y ≡ t → (u : Bool) → lt_z y x ≡ u → (o : Ordering) → o ≡ cond t Less (cond u Greater Equal) → Says x y xs ys o
+    by x y xs ys true e u f o h = subst (Says x y xs ys) (sym h) (lex-less x y xs ys e)
+    by x y xs ys false e true f o h = subst (Says x y xs ys) (sym h) (lex-more x y xs ys e f)
+    by x y xs ys false e false f o h = subst (Says x y xs ys) (sym h) (lex-next x y xs ys e f)
 
 -- ---- le_all
 pub le_all-zip : (a b : List ℤ) → length a ≡ length b → list_all (λ (p : ℤ × ℤ). le_z p.0 p.1) (zip a b) ≡ le_all a b

@@ -4,17 +4,12 @@ use mathlib.Core.List.{List, [], ◌∷◌, ◌++◌}
 use Prim.Native.Nat.{ℕ, zero, suc, ◌+◌, ◌-◌, ◌*◌, ◌^◌, ◌≤◌, ◌<◌}
 use native.Mathlib.Decide.{dec_lt}
 use native.Mathlib.Omega.{arith}
-use lib.IntN.{ℤ, pos, negsuc, nat_abs}
+use lib.IntN.{ℤ, pos, nat_abs}
 use lib.ListN.{length, get_or, length-append, get_or-append}
 use Rattle.points.specs.Vectors.{lex, Lex, le_all}
 use Rattle.points.specs.Limits.{max_value}
 use Rattle.points.specs.Lists.{values_at, model_at, RisingAt, Apart, NoneDominates, Proper}
 use Rattle.points.proofs.OrderLaws.{lex_irrefl, lex-trans, le_all-lex}
-
--- ---- numbers
-pub abs-zero : (z : ℤ) → nat_abs z ≡ 0 → z ≡ pos 0
-abs-zero (pos n) e = ap pos e
-abs-zero (negsuc n) e = absurd (omega arith)
 
 module _ (vs : List ℤ) where
   -- ---- RisingAt
@@ -81,7 +76,3 @@ module _ {points : ℕ} (vs vs' : List ℤ) (same : (i : ℕ) → i < points * 4
 pub proper-append : {objectives n points : ℕ} (vs ws : List ℤ) (ms os : List ℕ) → length vs ≡ points * 4 → length ms ≡ points → Proper objectives n points vs ms → Proper objectives n points (vs ++ ws) (ms ++ os)
 proper-append vs ws ms os e f =
     proper-same vs (vs ++ ws) (λ i h. get_or-append vs ws (pos 0) i (omega arith)) ms (ms ++ os) (λ k h. get_or-append ms os 0 k (omega arith)) (omega (arith, length-append vs ws)) (omega (arith, length-append ms os))
-
-pub proper-first : {objectives n points : ℕ} (vs ws : List ℤ) (ms os : List ℕ) → length vs ≡ points * 4 → length ms ≡ points → Proper objectives n points (vs ++ ws) (ms ++ os) → Proper objectives n points vs ms
-proper-first vs ws ms os e f =
-    proper-same (vs ++ ws) vs (λ i h. sym (get_or-append vs ws (pos 0) i (omega arith))) (ms ++ os) ms (λ k h. sym (get_or-append ms os 0 k (omega arith))) (omega arith) (omega arith)

@@ -72,15 +72,5 @@ module _ (vs : List ℤ) (count : ℕ) (rows : List (List ℤ)) (e : rows ≡ fi
         apart = apart_none vs (rows-rise rise) (rows-apart apart);
       }
 
-  pub fine-rows : {objectives n : ℕ} {ms : List ℕ} → Proper objectives n count vs ms → ValuesFine objectives (take (count * 4) vs) (length (take (count * 4) vs))
-  fine-rows p i h =
-      let b : i < count * 4 = omega (arith, length-take-le (count * 4) vs room) in
-      subst (Fine _ i) (sym (get_or-take (count * 4) vs i (pos 0) b)) (record { in_range = p.in_range i b; unused = p.unused i b })
-
-  pub bits-rows : {objectives n : ℕ} {ms : List ℕ} → Proper objectives n count vs ms → BitsBelow n (length (take count ms)) (take count ms)
-  bits-rows {ms = ms} p k h =
-      let b : k < count = omega (arith, length-take-le count ms p.models_room) in
-      omega (arith, get_or-take count ms k 0 b, p.bits k b)
-
   pub apart-proper : {objectives n : ℕ} {ms : List ℕ} → Proper objectives n count vs ms → RowsApart (take count rows)
   apart-proper p = apart-rows (none_apart vs p.rising p.apart)

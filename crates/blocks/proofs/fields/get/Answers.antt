@@ -27,7 +27,9 @@ overflow_mul-number g c =
 
 pub overflow_add-number : goal.overflow_add-number
 overflow_add-number g c =
-    record { fits = next-fits c.loop-byte.byte-index c.loop-byte.number c.from.result (place g (goal.at.overflow_add-number g c).In-loop-byte) c.loop-byte.invariant.1 (small g (goal.at.overflow_add-number g c).After-from) }
+    let few = place g (goal.at.overflow_add-number g c).In-loop-byte in
+    let b = small g (goal.at.overflow_add-number g c).After-from in
+    record { fits = next-fits c.loop-byte.byte-index c.loop-byte.number c.from.result few c.loop-byte.invariant.1 b }
 
 pub loop-byte-preserved : goal.loop-byte-preserved
 loop-byte-preserved g c =

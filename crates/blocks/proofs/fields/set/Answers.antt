@@ -21,6 +21,8 @@ returns g c =
     ap (drop (8 - n)) (c.to_be_bytes.ensures ∙ ap (λ (k : ℕ). bytes_high_first k c.args.number) (sym d)) ∙ bytes-tail (8 - n) n c.args.number
     in
     let k : 8 - (8 - n) ≡ length (bytes_high_first n c.args.number) = omega (arith, c.requires.width, bytes-length n c.args.number) in
-    let stored : c.copy_from_slice.new.self ≡ bytes_high_first n c.args.number = c.copy_from_slice.ensures.after ∙ (ap₂ (λ (i : ℕ) (l : List ℕ). take i l) k lowest ∙ take-length (bytes_high_first n c.args.number)) in
+    let stored : c.copy_from_slice.new.self ≡ bytes_high_first n c.args.number =
+    c.copy_from_slice.ensures.after ∙ (ap₂ (λ (i : ℕ) (l : List ℕ). take i l) k lowest ∙ take-length (bytes_high_first n c.args.number))
+    in
     ap₂ (λ (x y : List ℕ). take c.args.at bs ++ (x ++ y)) stored (drop-drop m c.args.at bs ∙ ap (λ (k : ℕ). drop k bs) e)
     ∙ sym (put-bytes n bs c.args.at c.args.number c.requires.at_in_bounds)

@@ -8,5 +8,11 @@ use Rattle.files.proofs.write.set_blocks.Goals as goal
 
 pub loop-b-preserved : goal.loop-b-preserved
 loop-b-preserved c =
-    let whole : length c.set_points.new.block ≡ 512 = c.set_points.auto.block ∙ part_length c.loop-b.file c.loop-b.b (c.loop-b.b * 512) (c.loop-b.b * 512 + 512) refl refl (omega (arith, c.blocks_for-b-end.ensures)) in
-    blocks_more c.args.file.now c.args.list.now.points c.args.list.now.values.now c.args.list.now.models.now c.loop-b.file c.set_points.new.block c.loop-b.b (omega arith) (omega (arith, c.blocks_for-b-end.ensures)) whole c.loop-b.invariant c.set_points.ensures
+    let b = c.loop-b.b in
+    let list = c.args.list.now in
+    let room = c.blocks_for-b-end.ensures in
+    let whole : length c.set_points.new.block ≡ 512 =
+    c.set_points.auto.block ∙ part_length c.loop-b.file b (b * 512) (b * 512 + 512) refl refl (omega (arith, room))
+    in
+    blocks_more c.args.file.now list.points list.values.now list.models.now c.loop-b.file c.set_points.new.block b (omega arith) (omega (arith, room)) whole
+    c.loop-b.invariant c.set_points.ensures
