@@ -1,5 +1,5 @@
 -- Document 01, 'Front file, form 1': numbers in a block of 512 bytes, big-endian, and what storing one leaves.
-use Rattle.std.specs.Prelude.{◌≡◌, cond, List, ℕ, suc, ◌+◌, ◌-◌, ◌*◌, ◌/◌, ◌%◌, ◌^◌, ◌≤◌, ◌<◌, ltb, ℤ, pos, negsuc, get_or, set}
+use Rattle.std.specs.Prelude.{◌≡◌, cond, List, ℕ, zero, suc, ◌+◌, ◌-◌, ◌*◌, ◌/◌, ◌%◌, ◌^◌, ◌≤◌, ◌<◌, ltb, ℤ, pos, negsuc, get_or, set}
 
 -- A block is 512 bytes.
 abbrev pub block_len : ℕ
@@ -11,17 +11,20 @@ block_len = 512
 abbrev pub byte_at : List ℕ → ℕ → ℕ
 byte_at bs at = get_or bs at 0
 
--- A number of 16 bits: the high byte first.
-unfoldable pub u16_at : List ℕ → ℕ → ℕ
-u16_at bs at = byte_at bs at * 256 + byte_at bs (at + 1)
+-- A number of so many bytes: the high byte first, so that each byte is worth 256 times the next.
+unfoldable pub number_at : ℕ → List ℕ → ℕ → ℕ
+number_at zero bs at = 0
+number_at (suc n) bs at = number_at n bs at * 256 + byte_at bs (at + n)
 
--- Of 32 bits: the high half first.
-unfoldable pub u32_at : List ℕ → ℕ → ℕ
-u32_at bs at = u16_at bs at * 65536 + u16_at bs (at + 2)
+-- Of 16, 32 and 64 bits.
+abbrev pub u16_at : List ℕ → ℕ → ℕ
+u16_at bs at = number_at 2 bs at
 
--- Of 64 bits.
-unfoldable pub u64_at : List ℕ → ℕ → ℕ
-u64_at bs at = u32_at bs at * 4294967296 + u32_at bs (at + 4)
+abbrev pub u32_at : List ℕ → ℕ → ℕ
+u32_at bs at = number_at 4 bs at
+
+abbrev pub u64_at : List ℕ → ℕ → ℕ
+u64_at bs at = number_at 8 bs at
 
 -- The signed number that 64 bits stand for in two's complement.
 abbrev pub signed_of : ℕ → ℤ
@@ -38,14 +41,7 @@ ZeroBytes bs from end = (i : ℕ) → from ≤ i → i < end → byte_at bs i �
 
 -- ---- numbers stored
 
--- bs with a number of 16 bits stored from `at` on.
-unfoldable pub put16 : List ℕ → ℕ → ℕ → List ℕ
-put16 bs at x = set (set bs at (x / 256)) (at + 1) (x % 256)
-
--- Of 32 bits.
-unfoldable pub put32 : List ℕ → ℕ → ℕ → List ℕ
-put32 bs at x = put16 (put16 bs at (x / 65536)) (at + 2) (x % 65536)
-
--- Of 64 bits.
-unfoldable pub put64 : List ℕ → ℕ → ℕ → List ℕ
-put64 bs at x = put32 (put32 bs at (x / 4294967296)) (at + 4) (x % 4294967296)
+-- bs with a number of so many bytes stored from `at` on: the last byte is its lowest, and the bytes before it hold the rest.
+unfoldable pub put : ℕ → List ℕ → ℕ → ℕ → List ℕ
+put zero bs at x = bs
+put (suc n) bs at x = put n (set bs (at + n) (x % 256)) at (x / 256)

@@ -11,11 +11,12 @@ use Rattle.blocks.specs.Fields.{byte_at}
 use Rattle.blocks.proofs.ByteLaws.{Bytes}
 use Rattle.files.specs.Written.{bytes_for, WrittenAs, WrittenAll}
 use Rattle.files.specs.Taken.{ReadAs, Answer, LowestNot}
-use Rattle.files.specs.declared.write.FileWritten.{FileWritten}
-use Rattle.files.specs.declared.write.FileWritten.TheVariants.{Done as Wrote, NotProper as Improper, ShortOutput as NoRoom}
 use Rattle.files.specs.declared.read.FileHead.{FileHead}
-use Rattle.files.specs.declared.read.FileRead.{FileRead}
-use Rattle.files.specs.declared.read.FileRead.TheVariants.{Done, BadLength, BadCheck, BadLayout, NotProper, ShortOutput}
+use Rattle.files.specs.declared.errors.WriteFileError.{WriteFileError}
+use Rattle.files.specs.declared.errors.WriteFileError.TheVariants.{NotProper as Improper, ShortOutput as NoRoom}
+use Rattle.files.specs.declared.errors.ReadFileError.{ReadFileError}
+use Rattle.files.specs.declared.errors.ReadFileError.TheVariants.{BadLength, BadCheck, BadLayout, NotProper, ShortOutput}
+use Rattle.std.specs.Prelude.{Result, Ok, Err}
 use Rattle.files.proofs.FileLaws.{bytes-unique}
 
 -- ---- writing
@@ -33,16 +34,16 @@ module _ (o n p : ℕ) (vs : List ℤ) (ms found left left' : List ℕ) where
           ∙ (sym (get_or-drop (bytes_for p) left m 0)
           ∙ (ap (λ (t : List ℕ). get_or t m 0) (x.rest ∙ sym y.rest) ∙ (get_or-drop (bytes_for p) left' m 0 ∙ ap (byte_at left') e)))
 
-  pub written-unique : (a b : FileWritten) → WrittenAs o n p vs ms found left a → WrittenAs o n p vs ms found left' b → Bytes left → Bytes left' → (a ≡ b) × (left ≡ left')
-  written-unique (Wrote k) (Wrote m) x y h l = (ap Wrote (x.count ∙ sym y.count), all-unique x y h l)
-  written-unique (Wrote k) Improper x y h l = absurd (y.improper x.proper)
-  written-unique (Wrote k) NoRoom x y h l = absurd (omega (arith, x.room, y.short))
-  written-unique Improper (Wrote m) x y h l = absurd (x.improper y.proper)
-  written-unique Improper Improper x y h l = (refl, x.output ∙ sym y.output)
-  written-unique Improper NoRoom x y h l = absurd (x.improper y.proper)
-  written-unique NoRoom (Wrote m) x y h l = absurd (omega (arith, y.room, x.short))
-  written-unique NoRoom Improper x y h l = absurd (y.improper x.proper)
-  written-unique NoRoom NoRoom x y h l = (refl, x.output ∙ sym y.output)
+  pub written-unique : (a b : Result ℕ WriteFileError) → WrittenAs o n p vs ms found left a → WrittenAs o n p vs ms found left' b → Bytes left → Bytes left' → (a ≡ b) × (left ≡ left')
+  written-unique (Ok k) (Ok m) x y h l = (ap Ok (x.count ∙ sym y.count), all-unique x y h l)
+  written-unique (Ok k) (Err Improper) x y h l = absurd (y.improper x.proper)
+  written-unique (Ok k) (Err NoRoom) x y h l = absurd (omega (arith, x.room, y.short))
+  written-unique (Err Improper) (Ok m) x y h l = absurd (x.improper y.proper)
+  written-unique (Err Improper) (Err Improper) x y h l = (refl, x.output ∙ sym y.output)
+  written-unique (Err Improper) (Err NoRoom) x y h l = absurd (x.improper y.proper)
+  written-unique (Err NoRoom) (Ok m) x y h l = absurd (omega (arith, y.room, x.short))
+  written-unique (Err NoRoom) (Err Improper) x y h l = absurd (y.improper x.proper)
+  written-unique (Err NoRoom) (Err NoRoom) x y h l = (refl, x.output ∙ sym y.output)
 
 -- ---- reading
 pub lowest-unique : {P : ℕ → Type 0} {f : List ℕ} {a b : ℕ} → LowestNot P f a → LowestNot P f b → a ≡ b
@@ -59,40 +60,41 @@ abbrev head_in : Answer → FileHead
 head_in a = heading a.objectives a.variables a.points
 
 module _ (f : List ℕ) (vs vs' vs'' : List ℤ) (ms ms' ms'' : List ℕ) where
-  pub read-unique : (a b : FileRead) → ReadAs f vs ms vs' ms' a → ReadAs f vs ms vs'' ms'' b → (a ≡ b) × ((vs' ≡ vs'') × (ms' ≡ ms''))
-  read-unique (Done a) (Done b) x y = (ap (λ (t : Answer). Done (head_in t)) (x.answer ∙ sym y.answer), (x.values ∙ sym y.values, x.models ∙ sym y.models))
-  read-unique (Done a) BadLength x y = absurd (y.wrong x.sound.sized)
-  read-unique (Done a) (BadCheck b) x y = absurd (y.lowest.fails (x.sound.checked b y.lowest.inside))
-  read-unique (Done a) (BadLayout b) x y = absurd (y.lowest.fails (x.sound.laid b y.lowest.inside))
-  read-unique (Done a) NotProper x y = absurd (y.improper x.proper)
-  read-unique (Done a) ShortOutput x y = absurd (y.short x.room)
-  read-unique BadLength (Done b) x y = absurd (x.wrong y.sound.sized)
-  read-unique BadLength BadLength x y = (refl, (x.kept.values ∙ sym y.kept.values, x.kept.models ∙ sym y.kept.models))
-  read-unique BadLength (BadCheck b) x y = absurd (x.wrong y.sized)
-  read-unique BadLength (BadLayout b) x y = absurd (x.wrong y.sized)
-  read-unique BadLength NotProper x y = absurd (x.wrong y.sound.sized)
-  read-unique BadLength ShortOutput x y = absurd (x.wrong y.sound.sized)
-  read-unique (BadCheck a) (Done b) x y = absurd (x.lowest.fails (y.sound.checked a x.lowest.inside))
-  read-unique (BadCheck a) BadLength x y = absurd (y.wrong x.sized)
-  read-unique (BadCheck a) (BadCheck b) x y = (ap BadCheck (lowest-unique x.lowest y.lowest), (x.kept.values ∙ sym y.kept.values, x.kept.models ∙ sym y.kept.models))
-  read-unique (BadCheck a) (BadLayout b) x y = absurd (x.lowest.fails (y.checked a x.lowest.inside))
-  read-unique (BadCheck a) NotProper x y = absurd (x.lowest.fails (y.sound.checked a x.lowest.inside))
-  read-unique (BadCheck a) ShortOutput x y = absurd (x.lowest.fails (y.sound.checked a x.lowest.inside))
-  read-unique (BadLayout a) (Done b) x y = absurd (x.lowest.fails (y.sound.laid a x.lowest.inside))
-  read-unique (BadLayout a) BadLength x y = absurd (y.wrong x.sized)
-  read-unique (BadLayout a) (BadCheck b) x y = absurd (y.lowest.fails (x.checked b y.lowest.inside))
-  read-unique (BadLayout a) (BadLayout b) x y = (ap BadLayout (lowest-unique x.lowest y.lowest), (x.kept.values ∙ sym y.kept.values, x.kept.models ∙ sym y.kept.models))
-  read-unique (BadLayout a) NotProper x y = absurd (x.lowest.fails (y.sound.laid a x.lowest.inside))
-  read-unique (BadLayout a) ShortOutput x y = absurd (x.lowest.fails (y.sound.laid a x.lowest.inside))
-  read-unique NotProper (Done b) x y = absurd (x.improper y.proper)
-  read-unique NotProper BadLength x y = absurd (y.wrong x.sound.sized)
-  read-unique NotProper (BadCheck b) x y = absurd (y.lowest.fails (x.sound.checked b y.lowest.inside))
-  read-unique NotProper (BadLayout b) x y = absurd (y.lowest.fails (x.sound.laid b y.lowest.inside))
-  read-unique NotProper NotProper x y = (refl, (x.kept.values ∙ sym y.kept.values, x.kept.models ∙ sym y.kept.models))
-  read-unique NotProper ShortOutput x y = absurd (x.improper y.proper)
-  read-unique ShortOutput (Done b) x y = absurd (x.short y.room)
-  read-unique ShortOutput BadLength x y = absurd (y.wrong x.sound.sized)
-  read-unique ShortOutput (BadCheck b) x y = absurd (y.lowest.fails (x.sound.checked b y.lowest.inside))
-  read-unique ShortOutput (BadLayout b) x y = absurd (y.lowest.fails (x.sound.laid b y.lowest.inside))
-  read-unique ShortOutput NotProper x y = absurd (y.improper x.proper)
-  read-unique ShortOutput ShortOutput x y = (refl, (x.kept.values ∙ sym y.kept.values, x.kept.models ∙ sym y.kept.models))
+  pub read-unique : (a b : Result FileHead ReadFileError) → ReadAs f vs ms vs' ms' a → ReadAs f vs ms vs'' ms'' b → (a ≡ b) × ((vs' ≡ vs'') × (ms' ≡ ms''))
+  read-unique (Ok a) (Ok b) x y = (ap (λ (t : Answer). Ok (head_in t)) (x.answer ∙ sym y.answer), (x.values ∙ sym y.values, x.models ∙ sym y.models))
+  read-unique (Ok a) (Err BadLength) x y = absurd (y.wrong x.sound.sized)
+  read-unique (Ok a) (Err (BadCheck b)) x y = absurd (y.lowest.fails (x.sound.checked b y.lowest.inside))
+  read-unique (Ok a) (Err (BadLayout b)) x y = absurd (y.lowest.fails (x.sound.laid b y.lowest.inside))
+  read-unique (Ok a) (Err NotProper) x y = absurd (y.improper x.proper)
+  read-unique (Ok a) (Err ShortOutput) x y = absurd (y.short x.room)
+  read-unique (Err BadLength) (Ok b) x y = absurd (x.wrong y.sound.sized)
+  read-unique (Err BadLength) (Err BadLength) x y = (refl, (x.kept.values ∙ sym y.kept.values, x.kept.models ∙ sym y.kept.models))
+  read-unique (Err BadLength) (Err (BadCheck b)) x y = absurd (x.wrong y.sized)
+  read-unique (Err BadLength) (Err (BadLayout b)) x y = absurd (x.wrong y.sized)
+  read-unique (Err BadLength) (Err NotProper) x y = absurd (x.wrong y.sound.sized)
+  read-unique (Err BadLength) (Err ShortOutput) x y = absurd (x.wrong y.sound.sized)
+  read-unique (Err (BadCheck a)) (Ok b) x y = absurd (x.lowest.fails (y.sound.checked a x.lowest.inside))
+  read-unique (Err (BadCheck a)) (Err BadLength) x y = absurd (y.wrong x.sized)
+  read-unique (Err (BadCheck a)) (Err (BadCheck b)) x y = (ap (λ (t : ℕ). Err (BadCheck t)) (lowest-unique x.lowest y.lowest), (x.kept.values ∙ sym y.kept.values, x.kept.models ∙ sym y.kept.models))
+  read-unique (Err (BadCheck a)) (Err (BadLayout b)) x y = absurd (x.lowest.fails (y.checked a x.lowest.inside))
+  read-unique (Err (BadCheck a)) (Err NotProper) x y = absurd (x.lowest.fails (y.sound.checked a x.lowest.inside))
+  read-unique (Err (BadCheck a)) (Err ShortOutput) x y = absurd (x.lowest.fails (y.sound.checked a x.lowest.inside))
+  read-unique (Err (BadLayout a)) (Ok b) x y = absurd (x.lowest.fails (y.sound.laid a x.lowest.inside))
+  read-unique (Err (BadLayout a)) (Err BadLength) x y = absurd (y.wrong x.sized)
+  read-unique (Err (BadLayout a)) (Err (BadCheck b)) x y = absurd (y.lowest.fails (x.checked b y.lowest.inside))
+  read-unique (Err (BadLayout a)) (Err (BadLayout b)) x y =
+      (ap (λ (t : ℕ). Err (BadLayout t)) (lowest-unique x.lowest y.lowest), (x.kept.values ∙ sym y.kept.values, x.kept.models ∙ sym y.kept.models))
+  read-unique (Err (BadLayout a)) (Err NotProper) x y = absurd (x.lowest.fails (y.sound.laid a x.lowest.inside))
+  read-unique (Err (BadLayout a)) (Err ShortOutput) x y = absurd (x.lowest.fails (y.sound.laid a x.lowest.inside))
+  read-unique (Err NotProper) (Ok b) x y = absurd (x.improper y.proper)
+  read-unique (Err NotProper) (Err BadLength) x y = absurd (y.wrong x.sound.sized)
+  read-unique (Err NotProper) (Err (BadCheck b)) x y = absurd (y.lowest.fails (x.sound.checked b y.lowest.inside))
+  read-unique (Err NotProper) (Err (BadLayout b)) x y = absurd (y.lowest.fails (x.sound.laid b y.lowest.inside))
+  read-unique (Err NotProper) (Err NotProper) x y = (refl, (x.kept.values ∙ sym y.kept.values, x.kept.models ∙ sym y.kept.models))
+  read-unique (Err NotProper) (Err ShortOutput) x y = absurd (x.improper y.proper)
+  read-unique (Err ShortOutput) (Ok b) x y = absurd (x.short y.room)
+  read-unique (Err ShortOutput) (Err BadLength) x y = absurd (y.wrong x.sound.sized)
+  read-unique (Err ShortOutput) (Err (BadCheck b)) x y = absurd (y.lowest.fails (x.sound.checked b y.lowest.inside))
+  read-unique (Err ShortOutput) (Err (BadLayout b)) x y = absurd (y.lowest.fails (x.sound.laid b y.lowest.inside))
+  read-unique (Err ShortOutput) (Err NotProper) x y = absurd (y.improper x.proper)
+  read-unique (Err ShortOutput) (Err ShortOutput) x y = (refl, (x.kept.values ∙ sym y.kept.values, x.kept.models ∙ sym y.kept.models))

@@ -9,7 +9,7 @@ use lib.ListN.{length, take, drop, length-take, get_or-eq_default}
 use lib.Seq.{get_or-take, length-take-le}
 use Rattle.blocks.specs.Fields.{byte_at, u64_at, signed_of, bits_of}
 use Rattle.blocks.specs.Check.{CheckFits}
-use Rattle.blocks.proofs.ByteLaws.{Bytes, u64-small, bits-signed}
+use Rattle.blocks.proofs.ByteLaws.{Bytes, number-small, bits-signed}
 use Rattle.files.specs.Layout.{block_at, blocks_for, count_in, place_of, points_of, objectives_of, variables_of, value_in, model_in, HeadFits, PointsFit, BlockFits, FileOf}
 use Rattle.files.specs.Written.{bytes_for}
 use Rattle.files.proofs.BlockLaws.{block-length}
@@ -53,9 +53,9 @@ module _ {o n points : ℕ} {vs : List ℤ} {ms : List ℕ} (f g : List ℕ) (F 
       let at = 8 + j * 40 + q * 8 in
       let i = (b * 12 + j) * 4 + q in
       let inside : i < points * 4 = omega arith in
-      sym (bits-signed (u64_at (block_at f (suc b)) at) (u64-small (block_at f (suc b)) (block-bytes f (suc b) hf) at))
+      sym (bits-signed (u64_at (block_at f (suc b)) at) (number-small 8 (block_at f (suc b)) (block-bytes f (suc b) hf) at))
       ∙ (ap bits_of (sym (value-place f b j q h l) ∙ (F.values i inside ∙ (sym (G.values i inside) ∙ value-place g b j q h l)))
-      ∙ bits-signed (u64_at (block_at g (suc b)) at) (u64-small (block_at g (suc b)) (block-bytes g (suc b) hg) at))
+      ∙ bits-signed (u64_at (block_at g (suc b)) at) (number-small 8 (block_at g (suc b)) (block-bytes g (suc b) hg) at))
 
   numbers-same : (b : ℕ) (j q : ℕ) → j < count_in points (suc b) → q < 5 → u64_at (block_at f (suc b)) (8 + j * 40 + q * 8) ≡ u64_at (block_at g (suc b)) (8 + j * 40 + q * 8)
   numbers-same b j q h l = by (dec_lt q 4)

@@ -1,8 +1,8 @@
 -- What reading concludes: the list in a file by what was decoded of it, and each answer.
-use mathlib.Core.Path.{◌≡◌, sym, subst}
+use mathlib.Core.Path.{◌≡◌, sym, ap₂, subst}
 use mathlib.Core.Bool.{Bool}
 use mathlib.Core.List.{List, ◌++◌}
-use Prim.Native.Nat.{ℕ, ◌*◌, ◌≤◌}
+use Prim.Native.Nat.{ℕ, ◌+◌, ◌*◌, ◌/◌, ◌%◌, ◌≤◌, ◌<◌}
 use native.Mathlib.Omega.{arith}
 use lib.IntN.{ℤ}
 use lib.ListN.{length}
@@ -10,24 +10,16 @@ use Rattle.instance.specs.Tests.{Decides}
 use Rattle.instance.proofs.ListLaws.{tabulate-length}
 use Rattle.points.specs.Lists.{Proper}
 use Rattle.points.proofs.ListLaws.{proper-append, proper-first}
-use Rattle.files.specs.Layout.{blocks_for, value_in, model_in, values_in, models_in}
-use Rattle.files.specs.Taken.{Sound, blocks_in, points}
+use Rattle.blocks.specs.Fields.{signed_of, u64_at}
+use Rattle.files.specs.Layout.{block_at, place_of, blocks_in, blocks_for, value_in, model_in, values_in, models_in}
+use Rattle.files.specs.Taken.{Sound, points}
 
--- Local runs that begin with the list decide whether it is proper.
-pub decides-list : {r : Bool} (f : List ℕ) (o n points : ℕ) {vs : List ℤ} {ms : List ℕ} (ws : List ℤ) (os : List ℕ) → vs ≡ values_in f points ++ ws → ms ≡ models_in f points ++ os
-    → Decides r (Proper o n points vs ms) → Decides r (Proper o n points (values_in f points) (models_in f points))
-decides-list f o n points {vs} {ms} ws os e g d =
-    let lv = tabulate-length (value_in f) 0 (points * 4) in
-    let lm = tabulate-length (model_in f) 0 points in
-    record {
-      yes = λ t.
-          proper-first (values_in f points) ws (models_in f points) os lv lm
-          (subst (λ (l : List ℕ). Proper o n points (values_in f points ++ ws) l) g (subst (λ (l : List ℤ). Proper o n points l ms) e (d.yes t)));
-      no = λ t p.
-          d.no t
-          (subst (λ (l : List ℤ). Proper o n points l ms) (sym e)
-          (subst (λ (l : List ℕ). Proper o n points (values_in f points ++ ws) l) (sym g) (proper-append (values_in f points) ws (models_in f points) os lv lm p)));
-    }
+-- Value q of point k.
+pub value-place : (f : List ℕ) (k q : ℕ) → q < 4 → signed_of (u64_at (block_at f (k / 12 + 1)) (place_of k + q * 8)) ≡ value_in f (k * 4 + q)
+value-place f k q h =
+    let e : k ≡ (k * 4 + q) / 4 = omega arith in
+    let d : q ≡ (k * 4 + q) % 4 = omega arith in
+    ap₂ (λ (j i : ℕ). signed_of (u64_at (block_at f (j / 12 + 1)) (place_of j + i * 8))) e d
 
 -- ---- what a sound file gives
 module _ {f : List ℕ} (s : Sound f) where

@@ -10,14 +10,15 @@ use Rattle.instance.proofs.ListLaws.{tabulate-length, tabulate-get_or}
 use Rattle.points.specs.Lists.{Proper}
 use Rattle.points.proofs.ListLaws.{proper-same, proper-append}
 use Rattle.blocks.proofs.ByteLaws.{Bytes}
-use Rattle.files.specs.Layout.{block_at, blocks_for, objectives_of, variables_of, value_in, model_in, values_in, models_in, BlockFits, FileOf}
+use Rattle.files.specs.Layout.{block_at, blocks_in, blocks_for, objectives_of, variables_of, value_in, model_in, values_in, models_in, BlockFits, FileOf}
 use Rattle.files.specs.Written.{bytes_for, WrittenAs}
-use Rattle.files.specs.Taken.{ReadAs, ReadAll, Answer, answer_of, Sound, ProperList, Room, blocks_in, points}
-use Rattle.files.specs.declared.write.FileWritten.{FileWritten}
-use Rattle.files.specs.declared.write.FileWritten.TheVariants.{Done as Wrote, NotProper as Improper, ShortOutput as NoRoom}
+use Rattle.files.specs.Taken.{ReadAs, ReadAll, Answer, answer_of, Sound, ProperList, Room, points}
 use Rattle.files.specs.declared.read.FileHead.{FileHead}
-use Rattle.files.specs.declared.read.FileRead.{FileRead}
-use Rattle.files.specs.declared.read.FileRead.TheVariants.{Done, BadLength, BadCheck, BadLayout, NotProper, ShortOutput}
+use Rattle.files.specs.declared.errors.WriteFileError.{WriteFileError}
+use Rattle.files.specs.declared.errors.WriteFileError.TheVariants.{NotProper as Improper, ShortOutput as NoRoom}
+use Rattle.files.specs.declared.errors.ReadFileError.{ReadFileError}
+use Rattle.files.specs.declared.errors.ReadFileError.TheVariants.{BadLength, BadCheck, BadLayout, NotProper, ShortOutput}
+use Rattle.std.specs.Prelude.{Result, Ok, Err}
 use Rattle.files.proofs.FileLaws.{file-cut, bytes-unique}
 use Rattle.files.proofs.ReadLaws.{sound-total}
 
@@ -78,17 +79,17 @@ module _ {o n p : ℕ} {vs : List ℤ} {ms : List ℕ} {f : List ℕ} (F : FileO
         ∙ (get_or-append (models_in f p) (drop p os) 0 k (omega (arith, tabulate-length (model_in f) 0 p)) ∙ (models-at f p k h ∙ F.models k h));
   }
 
-  pub read-file-of : (r : FileRead) → ReadAs f us os us' os' r → Same o n p vs ms (answer_of r) us' os'
-  read-file-of (Done h) x = same (answer_of (Done h)) x
-  read-file-of BadLength x = absurd (x.wrong (file-sound F proper whole).sized)
-  read-file-of (BadCheck b) x = absurd (x.lowest.fails ((file-sound F proper whole).checked b x.lowest.inside))
-  read-file-of (BadLayout b) x = absurd (x.lowest.fails ((file-sound F proper whole).laid b x.lowest.inside))
-  read-file-of NotProper x = absurd (x.improper (file-proper F proper whole))
-  read-file-of ShortOutput x = absurd (x.short rooms)
+  pub read-file-of : (r : Result FileHead ReadFileError) → ReadAs f us os us' os' r → Same o n p vs ms (answer_of r) us' os'
+  read-file-of (Ok h) x = same (answer_of (Ok h)) x
+  read-file-of (Err BadLength) x = absurd (x.wrong (file-sound F proper whole).sized)
+  read-file-of (Err (BadCheck b)) x = absurd (x.lowest.fails ((file-sound F proper whole).checked b x.lowest.inside))
+  read-file-of (Err (BadLayout b)) x = absurd (x.lowest.fails ((file-sound F proper whole).laid b x.lowest.inside))
+  read-file-of (Err NotProper) x = absurd (x.improper (file-proper F proper whole))
+  read-file-of (Err ShortOutput) x = absurd (x.short rooms)
 
 -- Reading the bytes that writing wrote gives the same objectives, n, points, values and assignments.
-pub read-written : {o n p : ℕ} {vs : List ℤ} {ms : List ℕ} {found left : List ℕ} {k : ℕ} (us us' : List ℤ) (os os' : List ℕ) (r : FileRead)
-    → WrittenAs o n p vs ms found left (Wrote k) → ReadAs (take k left) us os us' os' r → p * 4 ≤ length us → p ≤ length os → Same o n p vs ms (answer_of r) us' os'
+pub read-written : {o n p : ℕ} {vs : List ℤ} {ms : List ℕ} {found left : List ℕ} {k : ℕ} (us us' : List ℤ) (os os' : List ℕ) (r : Result FileHead ReadFileError)
+    → WrittenAs o n p vs ms found left (Ok k) → ReadAs (take k left) us os us' os' r → p * 4 ≤ length us → p ≤ length os → Same o n p vs ms (answer_of r) us' os'
 read-written {left = left} {k = k} us us' os os' r w x room room' =
     let fits : k ≤ length left = omega (arith, w.count, w.room, w.whole) in
     read-file-of (file-cut left k w.count fits w.file) w.proper (length-take-le k left fits ∙ w.count) us us' os os' room room' r x
@@ -130,25 +131,26 @@ module _ {f : List ℕ} {us us' : List ℤ} {os os' : List ℕ} {a : Answer} (r 
   taken-length = omega (arith, sound-total r.sound, r.sound.sized.whole)
 
 -- Writing what reading accepted writes as many bytes as the file has, and they are the file.
-module _ {f : List ℕ} {us us' : List ℤ} {os os' : List ℕ} (found left : List ℕ) {h : FileHead} (x : ReadAs f us os us' os' (Done h)) (hf : Bytes f) (hl : Bytes left) (room : length f ≤ length found) where
+module _ {f : List ℕ} {us us' : List ℤ} {os os' : List ℕ} (found left : List ℕ) {h : FileHead} (x : ReadAs f us os us' os' (Ok h)) (hf : Bytes f) (hl : Bytes left)
+    (room : length f ≤ length found) where
   heads : (h.objectives ≡ objectives_of (block_at f 0)) × ((h.n ≡ variables_of (block_at f 0)) × (h.points ≡ points f))
   heads = (ap (λ (a : Answer). a.objectives) x.answer, (ap (λ (a : Answer). a.variables) x.answer, ap (λ (a : Answer). a.points) x.answer))
 
-  by-file : (w : FileWritten) → WrittenAs (objectives_of (block_at f 0)) (variables_of (block_at f 0)) (points f) us' os' found left w → (w ≡ Wrote (length f)) × (take (length f) left ≡ f)
-  by-file (Wrote k) w =
+  by-file : (w : Result ℕ WriteFileError) → WrittenAs (objectives_of (block_at f 0)) (variables_of (block_at f 0)) (points f) us' os' found left w → (w ≡ Ok (length f)) × (take (length f) left ≡ f)
+  by-file (Ok k) w =
       let e : bytes_for (points f) ≡ length f = taken-length x in
       let fits : length f ≤ length left = omega (arith, w.whole) in (
-        ap Wrote (w.count ∙ e),
+        ap Ok (w.count ∙ e),
         ext_get_or 0 (take (length f) left) f (length-take-le (length f) left fits)
             (λ i l.
             let m : i < length f = omega (arith, length-take-le (length f) left fits) in
             get_or-take (length f) left i 0 m
             ∙ sym (bytes-unique f left (taken-file x) w.file hf hl (omega arith) (omega arith) i (omega arith))),
       )
-  by-file Improper w = absurd (w.improper (taken-proper x))
-  by-file NoRoom w = absurd (omega (arith, w.short, taken-length x))
+  by-file (Err Improper) w = absurd (w.improper (taken-proper x))
+  by-file (Err NoRoom) w = absurd (omega (arith, w.short, taken-length x))
 
-  pub write_read : (w : FileWritten) → WrittenAs h.objectives h.n h.points us' os' found left w → (w ≡ Wrote (length f)) × (take (length f) left ≡ f)
+  pub write_read : (w : Result ℕ WriteFileError) → WrittenAs h.objectives h.n h.points us' os' found left w → (w ≡ Ok (length f)) × (take (length f) left ≡ f)
   write_read w y =
       by-file w
       (subst (λ (o : ℕ). WrittenAs o (variables_of (block_at f 0)) (points f) us' os' found left w) heads.0

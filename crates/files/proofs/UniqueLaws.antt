@@ -9,7 +9,7 @@ use lib.Seq.{ext_get_or, get_or-drop}
 use Rattle.blocks.specs.Fields.{byte_at, u16_at, u32_at, u64_at}
 use Rattle.blocks.specs.Check.{checksum, CheckFits}
 use Rattle.blocks.proofs.FieldLaws.{Agree}
-use Rattle.blocks.proofs.ByteLaws.{Bytes, u16-bytes, u32-bytes, u64-bytes}
+use Rattle.blocks.proofs.ByteLaws.{Bytes, number-bytes}
 use Rattle.files.specs.Layout.{points_of, objectives_of, variables_of, HeadFits, PointsFit}
 
 -- ---- one block
@@ -31,7 +31,7 @@ module _ (a b : List ℕ) (ha : Bytes a) (hb : Bytes b) (la : length a ≡ 512) 
       ext_get_or 0 a b (la ∙ sym lb) (λ i h. by checks i h (dec_lt i 2))
     where
       by : u16_at a 0 ≡ u16_at b 0 → (i : ℕ) → i < length a → Dec (i < 2) → byte_at a i ≡ byte_at b i
-      by e i h (yes l) = in_field a b 0 2 i (u16-bytes a b ha hb 0 0 e) (omega arith) (omega arith)
+      by e i h (yes l) = in_field a b 0 2 i (number-bytes 2 a b ha hb 0 0 e) (omega arith) (omega arith)
       by e i h (no l) = same i (omega arith) (omega arith)
 
   -- Heads with the same three numbers.
@@ -39,10 +39,10 @@ module _ (a b : List ℕ) (ha : Bytes a) (hb : Bytes b) (la : length a ≡ 512) 
   head-unique fa fb ca cb o n p = block-unique ca cb (λ i l h. by i l h (dec_lt i 4) (dec_lt i 8) (dec_lt i 10) (dec_lt i 12) (dec_lt i 14) (dec_lt i 16) (dec_lt i 20))
     where
       f16 : (from i : ℕ) → u16_at a from ≡ u16_at b from → from ≤ i → i < from + 2 → byte_at a i ≡ byte_at b i
-      f16 from i e l m = in_field a b from 2 i (u16-bytes a b ha hb from from e) l m
+      f16 from i e l m = in_field a b from 2 i (number-bytes 2 a b ha hb from from e) l m
 
       f32 : (from i : ℕ) → u32_at a from ≡ u32_at b from → from ≤ i → i < from + 4 → byte_at a i ≡ byte_at b i
-      f32 from i e l m = in_field a b from 4 i (u32-bytes a b ha hb from from e) l m
+      f32 from i e l m = in_field a b from 4 i (number-bytes 4 a b ha hb from from e) l m
 
       by : (i : ℕ) → 2 ≤ i → i < 512 → Dec (i < 4) → Dec (i < 8) → Dec (i < 10) → Dec (i < 12) → Dec (i < 14) → Dec (i < 16) → Dec (i < 20) → byte_at a i ≡ byte_at b i
       by i l h (yes q) d2 d3 d4 d5 d6 d7 = f16 2 i (fa.kind ∙ sym fb.kind) l q
@@ -59,11 +59,11 @@ module _ (a b : List ℕ) (ha : Bytes a) (hb : Bytes b) (la : length a ≡ 512) 
   points-unique {m} {count} few fa fb ca cb same = block-unique ca cb (λ i l h. by i l h (dec_lt i 4) (dec_lt i 8) (dec_lt i (8 + count * 40)))
     where
       by : (i : ℕ) → 2 ≤ i → i < 512 → Dec (i < 4) → Dec (i < 8) → Dec (i < 8 + count * 40) → byte_at a i ≡ byte_at b i
-      by i l h (yes q) d2 d3 = in_field a b 2 2 i (u16-bytes a b ha hb 2 2 (fa.kind ∙ sym fb.kind)) l q
-      by i l h (no p1) (yes q) d3 = in_field a b 4 4 i (u32-bytes a b ha hb 4 4 (fa.number ∙ sym fb.number)) (omega arith) q
+      by i l h (yes q) d2 d3 = in_field a b 2 2 i (number-bytes 2 a b ha hb 2 2 (fa.kind ∙ sym fb.kind)) l q
+      by i l h (no p1) (yes q) d3 = in_field a b 4 4 i (number-bytes 4 a b ha hb 4 4 (fa.number ∙ sym fb.number)) (omega arith) q
       by i l h (no p1) (no p2) (yes r) =
           let j = (i - 8) / 40 in
           let q = (i - 8) % 40 / 8 in
           let from = 8 + j * 40 + q * 8 in
-          in_field a b from 8 i (u64-bytes a b ha hb from from (same j q (omega arith) (omega arith))) (omega arith) (omega arith)
+          in_field a b from 8 i (number-bytes 8 a b ha hb from from (same j q (omega arith) (omega arith))) (omega arith) (omega arith)
       by i l h (no p1) (no p2) (no p3) = fa.rest i (omega arith) h ∙ sym (fb.rest i (omega arith) h)

@@ -8,7 +8,8 @@ use borrow.Rule.Slice.PartMut.{put_mid, same_len_mid, take_put, drop_put}
 use lib.IntN.{ℤ, pos}
 use lib.ListN.{length, get_or, take, drop, length-drop, length-append}
 use lib.Seq.{length-take-le, take_at, drop_at, drop-drop, get_or-take, get_or-drop, ext_get_or}
-use Rattle.points.specs.Lists.{Proper}
+use Rattle.points.specs.Lists.{Proper, point_at}
+use Rattle.points.proofs.CompareLaws.{value-of}
 use Rattle.blocks.specs.Fields.{byte_at, signed_of, bits_of}
 use Rattle.blocks.proofs.ByteLaws.{signed-bits}
 use Rattle.files.specs.Layout.{block_at, blocks_for, count_in, value_in, PointsFit, BlockFits, BlockChecked, FileOf}
@@ -60,9 +61,6 @@ module _ (f ys : List ℕ) (b : ℕ) (room : (b + 1) * 512 ≤ length f) (whole 
 
 -- ---- BlocksPut
 module _ (f : List ℕ) (points : ℕ) (vs : List ℤ) (ms : List ℕ) where
-  pub blocks-none : BlocksPut f points vs ms 1 f
-  blocks-none = record { whole = refl; written = λ b h l. absurd (omega arith); head = refl; rest = refl }
-
   pub blocks_more : (g ys : List ℕ) (b : ℕ) → 1 ≤ b → (b + 1) * 512 ≤ length f → length ys ≡ 512 → BlocksPut f points vs ms b g → PointsOf b ((b - 1) * 12) (count_in points b) vs ms ys
       → BlocksPut f points vs ms (b + 1) (put_mid (b * 512) (b * 512 + 512 - b * 512) g ys)
   blocks_more g ys b some room whole a p = record {
@@ -93,17 +91,17 @@ module _ (f : List ℕ) (points : ℕ) (vs : List ℤ) (ms : List ℕ) where
 -- ---- the file of a list
 module _ {o n points : ℕ} {vs : List ℤ} {ms : List ℕ} (proper : Proper o n points vs ms) (g : List ℕ) (head : HeadOf o n points (block_at g 0))
     (written : (b : ℕ) → 1 ≤ b → b < blocks_for points → PointsOf b ((b - 1) * 12) (count_in points b) vs ms (block_at g b)) where
-  block_of : (k : ℕ) → k < points → PointIn (block_at g (k / 12 + 1)) (k % 12) vs ms k
+  block_of : (k : ℕ) → k < points → PointIn (block_at g (k / 12 + 1)) (k % 12) (point_at vs ms k)
   block_of k h =
       let b = k / 12 + 1 in
       let e : (b - 1) * 12 + k % 12 ≡ k = omega arith in
-      subst (PointIn (block_at g b) (k % 12) vs ms) e ((written b (omega arith) (omega arith)).points (k % 12) (omega arith))
+      subst (λ (t : ℕ). PointIn (block_at g b) (k % 12) (point_at vs ms t)) e ((written b (omega arith) (omega arith)).points (k % 12) (omega arith))
 
   value-at : (i : ℕ) → i < points * 4 → value_in g i ≡ get_or vs i (pos 0)
   value-at i h =
       let k = i / 4 in
       let e : k * 4 + i % 4 ≡ i = omega arith in
-      ap signed_of ((block_of k (omega arith)).values (i % 4) (omega arith) ∙ ap (λ (j : ℕ). bits_of (get_or vs j (pos 0))) e)
+      ap signed_of ((block_of k (omega arith)).values (i % 4) (omega arith) ∙ ap bits_of (value-of vs k (i % 4) (omega arith) ∙ ap (λ (j : ℕ). get_or vs j (pos 0)) e))
       ∙ signed-bits (get_or vs i (pos 0)) (omega (arith, proper.in_range i h))
 
   laid-at : (b : ℕ) → b < blocks_for points → BlockFits g (blocks_for points) b

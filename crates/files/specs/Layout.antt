@@ -1,5 +1,5 @@
 -- Document 01, 'Front file, form 1': what a file means, block by block. Numbers are big-endian.
-use Rattle.std.specs.Prelude.{◌≡◌, List, ℕ, zero, suc, ◌+◌, ◌-◌, ◌*◌, ◌/◌, ◌%◌, ◌<◌, min, ℤ, pos, get_or, take, drop}
+use Rattle.std.specs.Prelude.{◌≡◌, List, [], ◌∷◌, length, ℕ, zero, suc, ◌+◌, ◌-◌, ◌*◌, ◌/◌, ◌%◌, ◌<◌, min, ℤ, pos, get_or, take, drop}
 use Rattle.instance.specs.Lists.{tabulate}
 use Rattle.blocks.specs.Fields.{block_len, u16_at, u32_at, u64_at, signed_of, ZeroBytes}
 use Rattle.blocks.specs.Check.{CheckFits}
@@ -8,6 +8,10 @@ use Rattle.files.specs.Limits.{block_points, point_len}
 -- Block b, counted from 0: 512 bytes of the file.
 abbrev pub block_at : List ℕ → ℕ → List ℕ
 block_at f b = take block_len (drop (b * block_len) f)
+
+-- The whole blocks of a file.
+abbrev pub blocks_in : List ℕ → ℕ
+blocks_in f = length f / block_len
 
 -- The blocks of a list: the head, and point blocks that are full but the last. No points: head only.
 abbrev pub blocks_for : ℕ → ℕ
@@ -42,10 +46,14 @@ pub record PointsFit (p : List ℕ) (b count : ℕ) : Type 0 where
   pub number : u32_at p 4 ≡ b
   pub rest : ZeroBytes p (8 + count * point_len) block_len
 
--- Block b of a file of so many blocks is laid out as it should be.
+-- Block b of a file of so many blocks, whose head has so many points, is laid out as it should be.
+abbrev pub BlockLaid : List ℕ → ℕ → ℕ → ℕ → Type 0
+BlockLaid block blocks points zero = HeadFits block blocks
+BlockLaid block blocks points (suc b) = PointsFit block (suc b) (count_in points (suc b))
+
+-- So is block b of the file.
 abbrev pub BlockFits : List ℕ → ℕ → ℕ → Type 0
-BlockFits f blocks zero = HeadFits (block_at f 0) blocks
-BlockFits f blocks (suc b) = PointsFit (block_at f (suc b)) (suc b) (count_in (points_of (block_at f 0)) (suc b))
+BlockFits f blocks b = BlockLaid (block_at f b) blocks (points_of (block_at f 0)) b
 
 -- Its check fits.
 abbrev pub BlockChecked : List ℕ → ℕ → Type 0
@@ -62,6 +70,10 @@ value_in f i = signed_of (u64_at (block_at f (i / 4 / block_points + 1)) (place_
 -- The assignment of point k.
 abbrev pub model_in : List ℕ → ℕ → ℕ
 model_in f k = u64_at (block_at f (k / block_points + 1)) (place_of k + 32)
+
+-- The values of point k.
+abbrev pub values_of : List ℕ → ℕ → List ℤ
+values_of f k = value_in f (k * 4) ∷ (value_in f (k * 4 + 1) ∷ (value_in f (k * 4 + 2) ∷ (value_in f (k * 4 + 3) ∷ [])))
 
 -- The values and the assignments of so many points.
 abbrev pub values_in : List ℕ → ℕ → List ℤ

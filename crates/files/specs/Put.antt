@@ -1,6 +1,8 @@
 -- What the writers of parts of a block leave.
 use Rattle.std.specs.Prelude.{◌≡◌, List, ℕ, ◌+◌, ◌-◌, ◌*◌, ◌≤◌, ◌<◌, ℤ, length, drop}
 use Rattle.blocks.specs.Fields.{block_len, byte_at, u16_at, u32_at, ZeroBytes}
+use Rattle.points.specs.Fronts.{Candidate}
+use Rattle.points.specs.Lists.{point_at}
 use Rattle.files.specs.Limits.{block_points, point_len}
 use Rattle.files.specs.Layout.{block_at, count_in}
 use Rattle.files.specs.Structs.{PointIn, PointsOf}
@@ -12,17 +14,17 @@ pub record Begun (kind number : ℕ) (p : List ℕ) : Type 0 where
   pub has_number : u32_at p 4 ≡ number
   pub zeros : ZeroBytes p 8 block_len
 
--- q is p with point k of the runs written at place j.
-pub record PointPut (p : List ℕ) (j : ℕ) (vs : List ℤ) (ms : List ℕ) (k : ℕ) (q : List ℕ) : Type 0 where
+-- q is p with a point written at place j.
+pub record PointPut (p : List ℕ) (j : ℕ) (c : Candidate) (q : List ℕ) : Type 0 where
   pub whole : length q ≡ length p
-  pub point : PointIn q j vs ms k
+  pub point : PointIn q j c
   pub before : (i : ℕ) → i < 8 + j * point_len → byte_at q i ≡ byte_at p i
   pub after : (i : ℕ) → 8 + (j + 1) * point_len ≤ i → byte_at q i ≡ byte_at p i
 
 -- q is p with so many points of the runs, from `first` on, written from the first place on.
 pub record PointsPut (p : List ℕ) (first count : ℕ) (vs : List ℤ) (ms : List ℕ) (q : List ℕ) : Type 0 where
   pub whole : length q ≡ length p
-  pub points : (j : ℕ) → j < count → PointIn q j vs ms (first + j)
+  pub points : (j : ℕ) → j < count → PointIn q j (point_at vs ms (first + j))
   pub before : (i : ℕ) → i < 8 → byte_at q i ≡ byte_at p i
   pub after : (i : ℕ) → 8 + count * point_len ≤ i → byte_at q i ≡ byte_at p i
 

@@ -1,11 +1,13 @@
 -- Document 01, 'Refusal numbers' and 'Orders': what reading a file answers, and what it leaves.
-use Rattle.std.specs.Prelude.{◌≡◌, List, ◌++◌, ℕ, ◌*◌, ◌/◌, ◌%◌, ◌≤◌, ◌<◌, ℤ, length, drop}
+use Rattle.std.specs.Prelude.{◌≡◌, Result, Ok, Err, List, ◌++◌, ℕ, ◌*◌, ◌%◌, ◌≤◌, ◌<◌, ℤ, length, drop}
 use Rattle.points.specs.Lists.{Proper}
 use Rattle.blocks.specs.Fields.{block_len}
 use Rattle.files.specs.Limits.{max_file}
-use Rattle.files.specs.Layout.{block_at, objectives_of, variables_of, points_of, values_in, models_in, BlockChecked, BlockFits}
-use Rattle.files.specs.declared.read.FileRead.{FileRead}
-use Rattle.files.specs.declared.read.FileRead.TheVariants.{Done, BadLength, BadCheck, BadLayout, NotProper, ShortOutput}
+use Rattle.files.specs.Layout.{block_at, blocks_in, objectives_of, variables_of, points_of, values_in, models_in, BlockChecked, BlockFits}
+use Rattle.files.specs.Structs.{head_of}
+use Rattle.files.specs.declared.read.FileHead.{FileHead}
+use Rattle.files.specs.declared.errors.ReadFileError.{ReadFileError}
+use Rattle.files.specs.declared.errors.ReadFileError.TheVariants.{BadLength, BadCheck, BadLayout, NotProper, ShortOutput}
 
 -- An answer by the document: its number (0 for done), the block, and objectives, n and points; what is not named is 0.
 pub record Answer : Type 0 where
@@ -19,24 +21,32 @@ pub record Answer : Type 0 where
 abbrev pub refusal : ℕ → ℕ → Answer
 refusal n b = record { number = n; block = b; objectives = 0; variables = 0; points = 0 }
 
+-- The number of each refusal,
+abbrev pub read_number : ReadFileError → ℕ
+read_number BadLength = 15
+read_number (BadCheck b) = 16
+read_number (BadLayout b) = 17
+read_number NotProper = 14
+read_number ShortOutput = 13
+
+-- and the block that it names.
+abbrev pub read_block : ReadFileError → ℕ
+read_block BadLength = 0
+read_block (BadCheck b) = b
+read_block (BadLayout b) = b
+read_block NotProper = 0
+read_block ShortOutput = 0
+
 -- The number and the values of each case.
-abbrev pub answer_of : FileRead → Answer
-answer_of (Done h) = record { number = 0; block = 0; objectives = h.objectives; variables = h.n; points = h.points }
-answer_of BadLength = refusal 15 0
-answer_of (BadCheck b) = refusal 16 b
-answer_of (BadLayout b) = refusal 17 b
-answer_of NotProper = refusal 14 0
-answer_of ShortOutput = refusal 13 0
+abbrev pub answer_of : Result FileHead ReadFileError → Answer
+answer_of (Ok h) = record { number = 0; block = 0; objectives = h.objectives; variables = h.n; points = h.points }
+answer_of (Err e) = refusal (read_number e) (read_block e)
 
 -- The length is not 0, a multiple of 512, and at most 44,544.
 pub record LengthFits (f : List ℕ) : Type 0 where
   pub some : 1 ≤ length f
   pub whole : length f % block_len ≡ 0
   pub most : length f ≤ max_file
-
--- The blocks of a file.
-abbrev pub blocks_in : List ℕ → ℕ
-blocks_in f = length f / block_len
 
 -- Each block's check fits.
 abbrev pub AllChecked : List ℕ → Type 0
@@ -57,6 +67,15 @@ pub record Sound (f : List ℕ) : Type 0 where
   pub sized : LengthFits f
   pub checked : AllChecked f
   pub laid : AllLaid f
+
+-- What checking a file answers: its head, or the refusal, each exactly where the document has it.
+abbrev pub CheckedAs : List ℕ → Result FileHead ReadFileError → Type 0
+CheckedAs f (Ok h) = (h ≡ head_of (block_at f 0)) × Sound f
+CheckedAs f (Err BadLength) = LengthFits f → ⊥
+CheckedAs f (Err (BadCheck b)) = LengthFits f × LowestNot (BlockChecked f) f b
+CheckedAs f (Err (BadLayout b)) = LengthFits f × (AllChecked f × LowestNot (BlockFits f (blocks_in f)) f b)
+CheckedAs f (Err NotProper) = ⊥
+CheckedAs f (Err ShortOutput) = ⊥
 
 -- What the head says, and the points.
 abbrev pub points : List ℕ → ℕ
@@ -130,10 +149,10 @@ module _ (f : List ℕ) (vs : List ℤ) (ms : List ℕ) (vs' : List ℤ) (ms' : 
     pub kept : AsFound
 
 -- What reading answers, and what it leaves of the runs found: each case exactly where the document has it.
-abbrev pub ReadAs : List ℕ → List ℤ → List ℕ → List ℤ → List ℕ → FileRead → Type 0
-ReadAs f vs ms vs' ms' (Done h) = ReadAll f vs ms vs' ms' (answer_of (Done h))
-ReadAs f vs ms vs' ms' BadLength = RefusedLength f vs ms vs' ms' (answer_of BadLength)
-ReadAs f vs ms vs' ms' (BadCheck b) = RefusedCheck f vs ms vs' ms' (answer_of (BadCheck b))
-ReadAs f vs ms vs' ms' (BadLayout b) = RefusedLayout f vs ms vs' ms' (answer_of (BadLayout b))
-ReadAs f vs ms vs' ms' NotProper = RefusedProper f vs ms vs' ms' (answer_of NotProper)
-ReadAs f vs ms vs' ms' ShortOutput = RefusedRoom f vs ms vs' ms' (answer_of ShortOutput)
+abbrev pub ReadAs : List ℕ → List ℤ → List ℕ → List ℤ → List ℕ → Result FileHead ReadFileError → Type 0
+ReadAs f vs ms vs' ms' (Ok h) = ReadAll f vs ms vs' ms' (answer_of (Ok h))
+ReadAs f vs ms vs' ms' (Err BadLength) = RefusedLength f vs ms vs' ms' (answer_of (Err BadLength))
+ReadAs f vs ms vs' ms' (Err (BadCheck b)) = RefusedCheck f vs ms vs' ms' (answer_of (Err (BadCheck b)))
+ReadAs f vs ms vs' ms' (Err (BadLayout b)) = RefusedLayout f vs ms vs' ms' (answer_of (Err (BadLayout b)))
+ReadAs f vs ms vs' ms' (Err NotProper) = RefusedProper f vs ms vs' ms' (answer_of (Err NotProper))
+ReadAs f vs ms vs' ms' (Err ShortOutput) = RefusedRoom f vs ms vs' ms' (answer_of (Err ShortOutput))

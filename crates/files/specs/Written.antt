@@ -1,22 +1,24 @@
 -- Document 01, 'Refusal numbers' and 'Orders': what writing a file answers, and what it leaves.
-use Rattle.std.specs.Prelude.{◌≡◌, List, ℕ, ◌*◌, ◌≤◌, ◌<◌, ℤ, length, drop}
+use Rattle.std.specs.Prelude.{◌≡◌, Result, Ok, Err, List, ℕ, ◌*◌, ◌≤◌, ◌<◌, ℤ, length, drop}
 use Rattle.points.specs.Lists.{Proper}
 use Rattle.blocks.specs.Fields.{block_len}
 use Rattle.files.specs.Layout.{blocks_for, FileOf}
-use Rattle.files.specs.declared.write.FileWritten.{FileWritten}
-use Rattle.files.specs.declared.write.FileWritten.TheVariants.{Done as Wrote, NotProper as Improper, ShortOutput as NoRoom}
+use Rattle.refusals.specs.Numbers.{number_of, value_of}
+use Rattle.files.specs.declared.errors.WriteFileError.{WriteFileError}
+use Rattle.files.specs.declared.errors.WriteFileError.TheVariants.{NotProper, ShortOutput}
 
--- The number of each answer: 0 for done, 14 for a list that is not proper, 13 for an output that is too short.
-abbrev pub written_number : FileWritten → ℕ
-written_number (Wrote k) = 0
-written_number Improper = 14
-written_number NoRoom = 13
+-- The number of each refusal: 14 for a list that is not proper, 13 for an output that is too short.
+abbrev pub write_number : WriteFileError → ℕ
+write_number NotProper = 14
+write_number ShortOutput = 13
+
+-- The number of each answer: 0 for done.
+abbrev pub written_number : Result ℕ WriteFileError → ℕ
+written_number r = number_of write_number r
 
 -- The value of each answer: the bytes written, 0 for a refusal.
-abbrev pub written_value : FileWritten → ℕ
-written_value (Wrote k) = k
-written_value Improper = 0
-written_value NoRoom = 0
+abbrev pub written_value : Result ℕ WriteFileError → ℕ
+written_value r = value_of (λ k. k) (λ e. 0) r
 
 -- The bytes of the file of so many points.
 abbrev pub bytes_for : ℕ → ℕ
@@ -49,7 +51,7 @@ module _ (objectives n points : ℕ) (vs : List ℤ) (ms : List ℕ) (found left
     pub output : left ≡ found
 
 -- What writing the list answers, and what it leaves of the output found.
-abbrev pub WrittenAs : ℕ → ℕ → ℕ → List ℤ → List ℕ → List ℕ → List ℕ → FileWritten → Type 0
-WrittenAs o n p vs ms found left (Wrote k) = WrittenAll o n p vs ms found left (written_number (Wrote k)) (written_value (Wrote k))
-WrittenAs o n p vs ms found left Improper = RefusedList o n p vs ms found left (written_number Improper) (written_value Improper)
-WrittenAs o n p vs ms found left NoRoom = RefusedOutput o n p vs ms found left (written_number NoRoom) (written_value NoRoom)
+abbrev pub WrittenAs : ℕ → ℕ → ℕ → List ℤ → List ℕ → List ℕ → List ℕ → Result ℕ WriteFileError → Type 0
+WrittenAs o n p vs ms found left (Ok k) = WrittenAll o n p vs ms found left (written_number (Ok k)) (written_value (Ok k))
+WrittenAs o n p vs ms found left (Err NotProper) = RefusedList o n p vs ms found left (written_number (Err NotProper)) (written_value (Err NotProper))
+WrittenAs o n p vs ms found left (Err ShortOutput) = RefusedOutput o n p vs ms found left (written_number (Err ShortOutput)) (written_value (Err ShortOutput))

@@ -1,107 +1,90 @@
 // Reading a front file (document 01, 'Front file, form 1' and 'Orders').
 ghost use Rattle.std.specs.Prelude.{◌≡◌, ◌*◌, ◌≤◌, length};
 ghost use Rattle.instance.specs.Tests.{Decides};
-ghost use Rattle.points.specs.Limits.{max_points};
 ghost use Rattle.points.specs.Lists.{Proper};
-ghost use Rattle.files.specs.Layout.{block_at, blocks_for, objectives_of, variables_of, points_of, values_in, models_in};
+ghost use Rattle.files.specs.Layout.{blocks_for, values_in, models_in};
 ghost use Rattle.files.specs.Structs.{head_of};
-ghost use Rattle.files.specs.Taken.{ReadAs};
+ghost use Rattle.files.specs.Taken.{CheckedAs, ReadAs};
 
-use crate::layout::{first_unchecked, first_unlaid};
+use crate::errors::ReadFileError;
+use crate::layout::{blocks_of, first_unchecked, first_unlaid};
 use crate::sizes::File;
-use crate::take::{take_models, take_values};
-use blocks::{Block, get16, get32};
+use crate::take::take_points;
+use blocks::{Block, get};
 use points::{Point, is_proper};
 
 // The three numbers of a head.
-#[derive(Clone, Copy, Drop)]
+#[derive(Clone, Copy, Debug, PartialEq, Eq)]
 pub struct FileHead {
     pub objectives: u64,
     pub n: u64,
     pub points: u64,
 }
 
-// The answer of reading a file.
-#[derive(Clone, Copy, Drop)]
-pub enum FileRead {
-    Done(FileHead), // done: objectives, n, points
-    BadLength, // 15: file length 0, not a multiple of 512, or above 44,544
-    BadCheck(u64), // 16: a check does not fit: lowest such block
-    BadLayout(u64), // 17: kind, number, form, block total or a zero byte wrong: lowest such block, the head if the total is wrong
-    NotProper, // 14: list not proper
-    ShortOutput, // 13: lent output shorter than what this answer would fill
+impl FileHead {
+    // The numbers in the head of a file.
+    fn of(head: &[u8; Block::LEN]) -> FileHead
+        ensures { result ≡ head_of head.now }
+    {
+        FileHead {
+            objectives: get::<2>(head, File::OBJECTIVES_AT),
+            n: get::<2>(head, File::VARIABLES_AT),
+            points: get::<4>(head, File::POINTS_AT),
+        }
+    }
 }
 
-// The numbers of the head of a file.
-fn head_of(file: &[u8]) -> FileHead
-    requires { 512 ≤ length file.now }
-    ensures { result ≡ head_of (block_at file.now 0) }
+// Checks the length, the checks and the layout of a file; answers its head.
+// Refuses 15, 16, then 17.
+fn check_file(file: &[u8]) -> Result<FileHead, ReadFileError>
+    ensures { CheckedAs file.now result }
 {
-    let head = &file[..Block::LEN];
-    let objectives = get16(head, File::OBJECTIVES_AT);
-    let n = get16(head, File::VARIABLES_AT);
-    let points = get32(head, File::POINTS_AT);
-    FileHead {
-        objectives,
-        n,
-        points,
+    if file.is_empty() || file.len() % Block::LEN != 0 || File::MAX_LEN < file.len() {
+        return Err(ReadFileError::BadLength);
     }
+    if let Some(b) = first_unchecked(file) {
+        return Err(ReadFileError::BadCheck(b as u64));
+    }
+    let head = FileHead::of(&blocks_of(file)[0]);
+    if let Some(b) = first_unlaid(file, head.points as usize) {
+        return Err(ReadFileError::BadLayout(b as u64));
+    }
+    Ok(head)
 }
 
 // Whether the list in a file that is laid out as it should be is proper.
-fn is_proper_list(file: &[u8], objectives: u64, n: u64, points: u64) -> bool
-    requires { blocks_for points * 512 ≤ length file.now }
-    ensures { Decides result (Proper objectives n points (values_in file.now points) (models_in file.now points)) }
+fn is_proper_list(file: &[u8], head: FileHead) -> bool
+    requires { blocks_for head.points * 512 ≤ length file.now }
+    ensures { Decides result (Proper head.objectives head.n head.points (values_in file.now head.points) (models_in file.now head.points)) }
 {
-    if Point::MAX_POINTS < points {
+    if Point::MAX_POINTS < head.points {
         return false;
     }
-    let count = points as usize;
-    let mut values = [0i64; File::VALUES_ROOM];
-    let mut models = [0u64; File::MODELS_ROOM];
-    take_values(file, count, &mut values);
-    take_models(file, count, &mut models);
-    is_proper(objectives, n, points, &values, &models)
+    let mut values = [0; File::VALUES_ROOM];
+    let mut models = [0; File::MODELS_ROOM];
+    take_points(file, head.points as usize, &mut values, &mut models);
+    is_proper(head.objectives, head.n, head.points, &values, &models)
 }
 
-// Reads a front file: its points go to the beginning of the lent runs.
+// Reads a front file: its points go to the beginning of the lent runs; answers the numbers of its head.
 // Refuses 15 for its length, 16 for a check, 17 for its layout, 14 where the list is not proper, then 13 where a lent run is too short.
 // Leaves the file as found; on done exactly the points' numbers change, on a refusal none.
 // Rules out: passing over a damaged block; a stored check FFFF for a computed 0000; a tail that is not zero; naming a later block.
-pub fn read_file(file: &[u8], values: &mut [i64], models: &mut [u64]) -> FileRead
+pub fn read_file(
+    file: &[u8],
+    values: &mut [i64],
+    models: &mut [u64],
+) -> Result<FileHead, ReadFileError>
     ensures { ReadAs file.now values.old models.old values.new models.new result }
 {
-    if file.len() < 1 {
-        return FileRead::BadLength;
+    let head = check_file(file)?;
+    if !is_proper_list(file, head) {
+        return Err(ReadFileError::NotProper);
     }
-    if file.len() % Block::LEN != 0 {
-        return FileRead::BadLength;
+    let count = head.points as usize;
+    if values.len() < count * Point::VALUES || models.len() < count {
+        return Err(ReadFileError::ShortOutput);
     }
-    if File::MAX_LEN < file.len() {
-        return FileRead::BadLength;
-    }
-    let blocks = file.len() / Block::LEN;
-    let unchecked = first_unchecked(file, blocks);
-    if unchecked < blocks {
-        return FileRead::BadCheck(unchecked as u64);
-    }
-    let head = head_of(file);
-    let points = head.points;
-    let count = points as usize;
-    let unlaid = first_unlaid(file, blocks, count);
-    if unlaid < blocks {
-        return FileRead::BadLayout(unlaid as u64);
-    }
-    if !is_proper_list(file, head.objectives, head.n, points) {
-        return FileRead::NotProper;
-    }
-    if values.len() < count * Point::VALUES {
-        return FileRead::ShortOutput;
-    }
-    if models.len() < count {
-        return FileRead::ShortOutput;
-    }
-    take_values(file, count, values);
-    take_models(file, count, models);
-    FileRead::Done(head)
+    take_points(file, count, values, models);
+    Ok(head)
 }

@@ -1,18 +1,13 @@
 // The sizes of a front file, and where its points stand (document 01, 'Front file, form 1').
-ghost use Rattle.std.specs.Prelude.{◌≡◌, ◌+◌, ◌≤◌};
-ghost use Rattle.points.specs.Limits.{max_points};
-ghost use Rattle.files.specs.Limits.{max_blocks, block_points};
+ghost use Rattle.std.specs.Prelude.{◌≡◌, ◌≤◌};
 ghost use Rattle.files.specs.Layout.{blocks_for, count_in};
-ghost use Rattle.files.specs.Structs.{sizes_named};
+ghost use Rattle.files.specs.Structs.{sizes_named, kind_code};
 
 use blocks::Block;
 use points::Point;
 
-// A front file.
-#[derive(Drop)]
-pub struct File {
-    pub blocks: usize,
-}
+// A front file is lent bytes; this names its sizes and places, and has no values.
+pub enum File {}
 
 impl File {
     // Blocks of a file: the head, and one for each 12 points.
@@ -23,12 +18,6 @@ impl File {
     pub const BLOCK_POINTS: usize = 12;
     // Bytes of a point.
     pub const POINT_LEN: usize = 40;
-    // Bytes of a number of a point.
-    pub const NUMBER_LEN: usize = 8;
-    // Kind 1: a head.
-    pub const HEAD: u64 = 1;
-    // Kind 2: points.
-    pub const POINTS: u64 = 2;
     // Form 1.
     pub const FORM: u64 = 1;
     // Places in every block: kind, number, and what it holds.
@@ -63,8 +52,27 @@ impl File {
     pub const VALUES_ROOM: usize = File::MODELS_ROOM * Point::VALUES;
 }
 
+// What a block holds.
+#[derive(Clone, Copy, Debug, PartialEq, Eq)]
+pub enum Kind {
+    Head, // 1
+    Points, // 2
+}
+
+impl Kind {
+    // Its number in a block.
+    pub fn code(self) -> u64
+        ensures { result ≡ kind_code self }
+    {
+        match self {
+            Kind::Head => 1,
+            Kind::Points => 2,
+        }
+    }
+}
+
 // Each size of the code, under the name of what it sizes.
-#[derive(Drop)]
+#[derive(Clone, Copy, Debug, PartialEq, Eq)]
 pub struct Sizes {
     pub blocks: usize,
     pub bytes: usize,
@@ -95,21 +103,13 @@ pub fn blocks_for(points: usize) -> usize
     requires { points ≤ 4294967295 }
     ensures { result ≡ blocks_for points }
 {
-    1 + (points + File::BLOCK_POINTS - 1) / File::BLOCK_POINTS
+    1 + points.div_ceil(File::BLOCK_POINTS)
 }
 
 // How many points block b, counted from 1, holds.
 pub fn count_in(points: usize, b: usize) -> usize
-    requires le_b { 1 ≤ b }
-    requires b_le_max_blocks { b ≤ max_blocks }
     ensures { result ≡ count_in points b }
 {
-    let first = (b - 1) * File::BLOCK_POINTS;
-    if points <= first {
-        return 0;
-    }
-    if points - first < File::BLOCK_POINTS {
-        return points - first;
-    }
-    File::BLOCK_POINTS
+    let before = b.saturating_sub(1).saturating_mul(File::BLOCK_POINTS);
+    points.saturating_sub(before).min(File::BLOCK_POINTS)
 }

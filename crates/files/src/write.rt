@@ -1,42 +1,30 @@
 // Writing a front file (document 01, 'Front file, form 1' and 'Orders').
 ghost use Rattle.std.specs.Prelude.{◌≡◌, ◌*◌, ◌≤◌, length};
-ghost use Rattle.points.specs.Limits.{max_points};
 ghost use Rattle.files.specs.Layout.{blocks_for};
 ghost use Rattle.files.specs.Put.{BlocksPut};
 ghost use Rattle.files.specs.Written.{WrittenAs};
 
+use crate::errors::WriteFileError;
+use crate::list::List;
 use crate::put::{set_head, set_points};
+use crate::read::FileHead;
 use crate::sizes::blocks_for;
 use blocks::Block;
 use points::is_proper;
 
-// The answer of writing a file.
-#[derive(Drop)]
-pub enum FileWritten {
-    Done(u64), // done: the bytes written
-    NotProper, // 14: list not proper
-    ShortOutput, // 13: lent output shorter than what this answer would fill
-}
-
 // Writes the point blocks of a list, each into its own 512 bytes.
-fn set_blocks(file: &mut [u8], points: usize, values: &[i64], models: &[u64])
-    requires points_le_max_points { points ≤ max_points }
-    requires points_in_bounds { blocks_for points * 512 ≤ length file.old }
-    requires points_in_bounds_2 { points * 4 ≤ length values.now }
-    requires points_in_bounds_3 { points ≤ length models.now }
-    ensures { BlocksPut file.old points values.now models.now (blocks_for points) file.new }
+fn set_blocks(file: &mut [u8], list: &List)
+    requires { blocks_for list.now.points * 512 ≤ length file.old }
+    ensures { BlocksPut file.old list.now.points list.now.values.now list.now.models.now (blocks_for list.now.points) file.new }
 {
-    let blocks = blocks_for(points);
-    let mut b: usize = 1;
-    while b < blocks {
+    for b in 1..blocks_for(list.points) {
         let at = b * Block::LEN;
         let end = at + Block::LEN;
-        set_points(&mut file[at..end], b, points, values, models);
-        b = b + 1;
+        set_points(&mut file[at..end], b, list);
     }
 }
 
-// Writes the first `points` points of the lent runs as a front file at the beginning of the lent bytes.
+// Writes the first `points` points of the lent runs as a front file at the beginning of the lent bytes; answers the bytes written.
 // Refuses 14 where the list is not proper, then 13 where the lent bytes are too few.
 // Leaves the runs as found; on done exactly the bytes written change, on a refusal none.
 // Rules out: leaving out the last block; filing a list that is not proper; a check or a number in another order of bytes.
@@ -47,18 +35,27 @@ pub fn write_file(
     values: &[i64],
     models: &[u64],
     file: &mut [u8],
-) -> FileWritten
+) -> Result<u64, WriteFileError>
     ensures { WrittenAs objectives n points values.now models.now file.old file.new result }
 {
     if !is_proper(objectives, n, points, values, models) {
-        return FileWritten::NotProper;
+        return Err(WriteFileError::NotProper);
     }
-    let count = points as usize;
-    let bytes = blocks_for(count) * Block::LEN;
+    let head = FileHead {
+        objectives,
+        n,
+        points,
+    };
+    let list = List {
+        points: points as usize,
+        values,
+        models,
+    };
+    let bytes = blocks_for(list.points) * Block::LEN;
     if file.len() < bytes {
-        return FileWritten::ShortOutput;
+        return Err(WriteFileError::ShortOutput);
     }
-    set_head(&mut file[..Block::LEN], objectives, n, points);
-    set_blocks(file, count, values, models);
-    FileWritten::Done(bytes as u64)
+    set_head(&mut file[..Block::LEN], head);
+    set_blocks(file, &list);
+    Ok(bytes as u64)
 }

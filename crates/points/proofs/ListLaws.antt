@@ -1,42 +1,18 @@
 -- Lists in lent runs: vectors that rise one by one rise over all, and then to look for dominance among later points is enough.
 use mathlib.Core.Path.{◌≡◌, sym, ap, ap₂, subst, ◌∙◌}
-use mathlib.Core.Bool.{false}
 use mathlib.Core.List.{List, [], ◌∷◌, ◌++◌}
 use Prim.Native.Nat.{ℕ, zero, suc, ◌+◌, ◌-◌, ◌*◌, ◌^◌, ◌≤◌, ◌<◌}
 use native.Mathlib.Decide.{dec_lt}
 use native.Mathlib.Omega.{arith}
-use lib.IntN.{ℤ, pos, negsuc, nat_abs}
+use lib.IntN.{ℤ, pos, nat_abs}
 use lib.ListN.{length, get_or, length-append, get_or-append}
 use Rattle.points.specs.Vectors.{lex, Lex, le_all}
 use Rattle.points.specs.Limits.{max_value}
-use Rattle.points.specs.Lists.{values_at, model_at, RisingAt, NoneAfter, Apart, NoneDominates, Proper}
-use Rattle.points.proofs.OrderLaws.{clash, lex_irrefl, lex-trans, le_all-lex}
-
--- ---- numbers
-pub abs-zero : (z : ℤ) → nat_abs z ≡ 0 → z ≡ pos 0
-abs-zero (pos n) e = ap pos e
-abs-zero (negsuc n) e = absurd (omega arith)
+use Rattle.points.specs.Lists.{values_at, model_at, RisingAt, Apart, NoneDominates, Proper}
+use Rattle.points.proofs.OrderLaws.{lex_irrefl, lex-trans, le_all-lex}
 
 module _ (vs : List ℤ) where
   -- ---- RisingAt
-  pub rising-one : RisingAt 1 vs
-  rising-one k h = absurd (omega arith)
-
-  as_step : (k j : ℕ) → 1 ≤ k → j + 1 ≡ k → lex (values_at vs (k - 1)) (values_at vs k) ≡ lex (values_at vs j) (values_at vs (j + 1))
-  as_step k j h e =
-      let f : k - 1 ≡ j = omega arith in
-      ap (λ (i : ℕ). lex (values_at vs i) (values_at vs k)) f ∙ ap (λ (i : ℕ). lex (values_at vs j) (values_at vs i)) (sym e)
-
-  pub rising-more : (k : ℕ) → 1 ≤ k → RisingAt k vs → Lex (values_at vs (k - 1)) (values_at vs k) → RisingAt (k + 1) vs
-  rising-more k h r l j b = by (dec_lt (j + 1) k)
-    where
-      by : Dec (j + 1 < k) → Lex (values_at vs j) (values_at vs (j + 1))
-      by (yes t) = r j t
-      by (no t) = sym (as_step k j h (omega arith)) ∙ l
-
-  pub rising-fails : {points : ℕ} (k : ℕ) → 1 ≤ k → k < points → lex (values_at vs (k - 1)) (values_at vs k) ≡ false → RisingAt points vs → ⊥
-  rising-fails k h b e r = clash (r (k - 1) (omega arith)) (sym (as_step k (k - 1) h (omega arith)) ∙ e)
-
   -- Each vector comes before all after it.
   pub rising-all : {points : ℕ} → RisingAt points vs → (i d : ℕ) → i + suc d < points → Lex (values_at vs i) (values_at vs (i + suc d))
   rising-all r i zero h = subst (λ (j : ℕ). Lex (values_at vs i) (values_at vs j)) (omega arith) (r i (omega arith))
@@ -50,27 +26,19 @@ module _ (vs : List ℤ) where
       let e : i + suc (j - i - 1) ≡ j = omega arith in
       subst (λ (k : ℕ). Lex (values_at vs i) (values_at vs k)) e (rising-all r i (j - i - 1) (omega arith))
 
-  -- ---- NoneAfter
-  pub after_more : (a k : ℕ) → NoneAfter k vs a → le_all (values_at vs a) (values_at vs k) ≡ false → NoneAfter (k + 1) vs a
-  after_more a k n e j l h t = by (dec_lt j k)
-    where
-      by : Dec (j < k) → ⊥
-      by (yes b) = n j l b t
-      by (no b) = let s : j ≡ k = omega arith in clash t (ap (λ (i : ℕ). le_all (values_at vs a) (values_at vs i)) s ∙ e)
-
   -- ---- NoneDominates, where vectors rise: a later point is not at most an earlier one, and two points are not equal.
   module _ {points : ℕ} (r : RisingAt points vs) where
     pub apart_none : Apart points vs → NoneDominates points vs
     apart_none a i j h l d = by (dec_lt i j) (dec_lt j i)
       where
         by : Dec (i < j) → Dec (j < i) → ⊥
-        by (yes p) q = a i h j p l d.at_most
+        by (yes p) q = a i j p l d.at_most
         by (no p) (yes q) = le_all-lex (values_at vs i) (values_at vs j) d.at_most (rising-before r j i q h)
         by (no p) (no q) = let e : i ≡ j = omega arith in d.differs (ap (values_at vs) e)
 
     pub none_apart : NoneDominates points vs → Apart points vs
-    none_apart n a h k l b t =
-        n a k h b
+    none_apart n a k l b t =
+        n a k (omega arith) b
         (record {
           at_most = t;
           differs = λ e. lex_irrefl (values_at vs k) (subst (λ (v : List ℤ). Lex v (values_at vs k)) e (rising-before r a k l b));
@@ -108,7 +76,3 @@ module _ {points : ℕ} (vs vs' : List ℤ) (same : (i : ℕ) → i < points * 4
 pub proper-append : {objectives n points : ℕ} (vs ws : List ℤ) (ms os : List ℕ) → length vs ≡ points * 4 → length ms ≡ points → Proper objectives n points vs ms → Proper objectives n points (vs ++ ws) (ms ++ os)
 proper-append vs ws ms os e f =
     proper-same vs (vs ++ ws) (λ i h. get_or-append vs ws (pos 0) i (omega arith)) ms (ms ++ os) (λ k h. get_or-append ms os 0 k (omega arith)) (omega (arith, length-append vs ws)) (omega (arith, length-append ms os))
-
-pub proper-first : {objectives n points : ℕ} (vs ws : List ℤ) (ms os : List ℕ) → length vs ≡ points * 4 → length ms ≡ points → Proper objectives n points (vs ++ ws) (ms ++ os) → Proper objectives n points vs ms
-proper-first vs ws ms os e f =
-    proper-same (vs ++ ws) vs (λ i h. sym (get_or-append vs ws (pos 0) i (omega arith))) (ms ++ os) ms (λ k h. sym (get_or-append ms os 0 k (omega arith))) (omega arith) (omega arith)

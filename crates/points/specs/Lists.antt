@@ -1,5 +1,5 @@
 -- Document 01, 'The front' (a point in lent runs) and 'Front file, form 1' (a proper list).
-use Rattle.std.specs.Prelude.{◌≡◌, List, [], ◌∷◌, ℕ, ◌+◌, ◌*◌, ◌%◌, ◌^◌, ◌≤◌, ◌<◌, ℤ, pos, nat_abs, get_or, length}
+use Rattle.std.specs.Prelude.{◌≡◌, List, [], ◌∷◌, ℕ, ◌+◌, ◌*◌, ◌%◌, ◌^◌, ◌≤◌, ◌<◌, ℤ, pos, nat_abs, get_or, length, take, drop, ◌++◌}
 use Rattle.instance.specs.Limits.{max_objectives}
 use Rattle.points.specs.Limits.{max_points, max_bits, max_value}
 use Rattle.points.specs.Vectors.{LeAll, Lex, Dominates}
@@ -16,6 +16,10 @@ model_at ms k = get_or ms k 0
 -- Point k of the lent runs.
 abbrev pub point_at : List ℤ → List ℕ → ℕ → Candidate
 point_at vs ms k = record { vector = values_at vs k; model = model_at ms k }
+
+-- The run with other values for point k.
+abbrev pub values_put : List ℤ → ℕ → List ℤ → List ℤ
+values_put vs k xs = take (k * 4) vs ++ (xs ++ drop (k * 4 + 4) vs)
 
 -- Values of the first `points` points within 4,096,000,000 of zero; number i is a value of objective i % 4 + 1.
 abbrev pub InRange : ℕ → List ℤ → Type 0
@@ -54,19 +58,27 @@ pub record Proper (objectives n points : ℕ) (vs : List ℤ) (ms : List ℕ) : 
 
 -- ---- what the code's smaller functions decide
 
--- Number i is in range, and 0 where no objective has it.
-pub record ValueFine (objectives : ℕ) (vs : List ℤ) (i : ℕ) : Type 0 where
-  pub in_range : nat_abs (get_or vs i (pos 0)) ≤ max_value
-  pub unused : objectives ≤ i % 4 → get_or vs i (pos 0) ≡ pos 0
+-- A value at place i is in range, and 0 where no objective has it.
+pub record Fine (objectives i : ℕ) (v : ℤ) : Type 0 where
+  pub in_range : nat_abs v ≤ max_value
+  pub unused : objectives ≤ i % 4 → v ≡ pos 0
 
--- The first `count` numbers are.
+-- The first `count` values are.
 abbrev pub ValuesFine : ℕ → List ℤ → ℕ → Type 0
-ValuesFine objectives vs count = (i : ℕ) → i < count → ValueFine objectives vs i
+ValuesFine objectives vs count = (i : ℕ) → i < count → Fine objectives i (get_or vs i (pos 0))
 
--- Point a is not at most a later point in every place.
-abbrev pub NoneAfter : ℕ → List ℤ → ℕ → Type 0
-NoneAfter points vs a = (k : ℕ) → a < k → k < points → LeAll (values_at vs a) (values_at vs k) → ⊥
+-- Each vector comes before the next.
+abbrev pub RowsRise : List (List ℤ) → Type 0
+RowsRise rows = (k : ℕ) → k + 1 < length rows → Lex (get_or rows k []) (get_or rows (k + 1) [])
 
--- No point is.
+-- A vector is at most none of these in every place.
+abbrev pub NoneAbove : List ℤ → List (List ℤ) → Type 0
+NoneAbove row rows = (k : ℕ) → k < length rows → LeAll row (get_or rows k []) → ⊥
+
+-- No vector is at most a later one in every place.
+abbrev pub RowsApart : List (List ℤ) → Type 0
+RowsApart rows = (a : ℕ) → a < length rows → NoneAbove (get_or rows a []) (drop (a + 1) rows)
+
+-- So in the lent run.
 abbrev pub Apart : ℕ → List ℤ → Type 0
-Apart points vs = (a : ℕ) → a < points → NoneAfter points vs a
+Apart points vs = (a k : ℕ) → a < k → k < points → LeAll (values_at vs a) (values_at vs k) → ⊥

@@ -5,7 +5,7 @@ ghost use Rattle.points.specs.Structs.{limits_named};
 use crate::point::Point;
 
 // Each limit of the code, under the name of what it limits.
-#[derive(Drop)]
+#[derive(Clone, Copy, Debug, PartialEq, Eq)]
 pub struct Limits {
     pub objectives: u64,
     pub values: usize,

@@ -1,41 +1,31 @@
 // When a list of points is proper, clause by clause (document 01, 'A list is proper').
 ghost use Rattle.std.specs.Prelude.{◌≡◌, ◌+◌, ◌*◌, ◌^◌, ◌<◌, ◌≤◌, length};
 ghost use Rattle.instance.specs.Tests.{Decides};
-ghost use Rattle.points.specs.Limits.{max_bits};
-ghost use Rattle.points.specs.Lists.{ValueFine, ValuesFine, BitsBelow, RisingAt, NoneAfter, Apart, Proper};
+ghost use Rattle.points.specs.Lists.{Fine, ValuesFine, BitsBelow, RowsRise, RowsApart, NoneAbove, Proper};
 
 use crate::point::Point;
-use crate::vectors::{before, le_all};
+use crate::vectors::le_all;
 use integers::magnitude;
 
-// Whether number i of the run is in range, and 0 where no objective has it.
-fn value_fine(objectives: u64, values: &[i64], i: usize) -> bool
-    requires { i < length values.now }
-    ensures { Decides result (ValueFine objectives values.now i) }
+// Whether a value is in range, and 0 where it is at a place that no objective has.
+fn value_fine(objectives: u64, i: usize, value: i64) -> bool
+    ensures { Decides result (Fine objectives i value) }
 {
-    let size = magnitude(values[i]);
+    let size = magnitude(value);
     if Point::MAX_VALUE < size {
         return false;
     }
-    if ((i % Point::VALUES) as u64) < objectives {
-        return true;
-    }
-    size == 0
+    ((i % Point::VALUES) as u64) < objectives || size == 0
 }
 
-// Whether the first `count` numbers are in range, and 0 where no objective has them.
-fn values_fine(objectives: u64, values: &[i64], count: usize) -> bool
-    requires { count ≤ length values.now }
-    ensures { Decides result (ValuesFine objectives values.now count) }
+// Whether the values are in range, and 0 where no objective has them.
+fn values_fine(objectives: u64, values: &[i64]) -> bool
+    ensures { Decides result (ValuesFine objectives values.now (length values.now)) }
 {
-    let mut i: usize = 0;
-    while i < count {
-        if !value_fine(objectives, values, i) {
-            return false;
-        }
-        i = i + 1;
-    }
-    true
+    values
+        .iter()
+        .enumerate()
+        .all(|(i, value)| value_fine(objectives, i, *value))
 }
 
 // Whether an assignment has no bit from n up.
@@ -48,65 +38,34 @@ fn bits_below(n: u64, model: u64) -> bool
     true
 }
 
-// Whether the first `points` assignments have no bit from n up.
-fn models_fine(n: u64, points: usize, models: &[u64]) -> bool
-    requires { points ≤ length models.now }
-    ensures { Decides result (BitsBelow n points models.now) }
+// Whether the assignments have no bit from n up.
+fn models_fine(n: u64, models: &[u64]) -> bool
+    ensures { Decides result (BitsBelow n (length models.now) models.now) }
 {
-    let mut k: usize = 0;
-    while k < points {
-        if !bits_below(n, models[k]) {
-            return false;
-        }
-        k = k + 1;
-    }
-    true
+    models.iter().all(|model| bits_below(n, *model))
 }
 
 // Whether the vectors strictly rise.
-fn is_rising(points: usize, values: &[i64]) -> bool
-    requires { points * 4 ≤ length values.now }
-    ensures { Decides result (RisingAt points values.now) }
+fn is_rising(rows: &[[i64; Point::VALUES]]) -> bool
+    ensures { Decides result (RowsRise rows.now) }
 {
-    let mut k: usize = 1;
-    while k < points {
-        if !before(values, k - 1, k) {
-            return false;
-        }
-        k = k + 1;
-    }
-    true
+    rows.is_sorted_by(|a, b| a < b)
 }
 
-// Whether no point after point a has a at most it in every place.
-fn none_after(points: usize, values: &[i64], a: usize) -> bool
-    requires a_lt_points { a < points }
-    requires points_in_bounds { points * 4 ≤ length values.now }
-    ensures { Decides result (NoneAfter points values.now a) }
+// Whether a row is at most none of the later ones in every place.
+fn none_above(row: &[i64; Point::VALUES], later: &[[i64; Point::VALUES]]) -> bool
+    ensures { Decides result (NoneAbove row.now later.now) }
 {
-    let mut k: usize = a + 1;
-    while k < points {
-        if le_all(values, a, k) {
-            return false;
-        }
-        k = k + 1;
-    }
-    true
+    !later.iter().any(|other| le_all(row, other))
 }
 
-// Whether no point is at most a later one in every place: where vectors rise, whether none dominates another.
-fn is_apart(points: usize, values: &[i64]) -> bool
-    requires { points * 4 ≤ length values.now }
-    ensures { Decides result (Apart points values.now) }
+// Whether no vector is at most a later one in every place: where vectors rise, whether none dominates another.
+fn is_apart(rows: &[[i64; Point::VALUES]]) -> bool
+    ensures { Decides result (RowsApart rows.now) }
 {
-    let mut a: usize = 0;
-    while a < points {
-        if !none_after(points, values, a) {
-            return false;
-        }
-        a = a + 1;
-    }
-    true
+    rows.iter()
+        .enumerate()
+        .all(|(a, row)| none_above(row, &rows[a + 1..]))
 }
 
 // Decides whether the first `points` points of the lent runs are a proper list.
@@ -116,10 +75,7 @@ fn is_apart(points: usize, values: &[i64]) -> bool
 pub fn is_proper(objectives: u64, n: u64, points: u64, values: &[i64], models: &[u64]) -> bool
     ensures { Decides result (Proper objectives n points values.now models.now) }
 {
-    if objectives < 1 {
-        return false;
-    }
-    if Point::MAX_OBJECTIVES < objectives {
+    if objectives < 1 || Point::MAX_OBJECTIVES < objectives {
         return false;
     }
     if Point::MAX_BITS < n {
@@ -129,20 +85,15 @@ pub fn is_proper(objectives: u64, n: u64, points: u64, values: &[i64], models: &
         return false;
     }
     let count = points as usize;
-    if values.len() < count * Point::VALUES {
+    let (rows, _) = values.as_chunks();
+    if rows.len() < count || models.len() < count {
         return false;
     }
-    if models.len() < count {
+    let rows = &rows[..count];
+    if !values_fine(objectives, &values[..count * Point::VALUES])
+        || !models_fine(n, &models[..count])
+    {
         return false;
     }
-    if !values_fine(objectives, values, count * Point::VALUES) {
-        return false;
-    }
-    if !models_fine(n, count, models) {
-        return false;
-    }
-    if !is_rising(count, values) {
-        return false;
-    }
-    is_apart(count, values)
+    is_rising(rows) && is_apart(rows)
 }

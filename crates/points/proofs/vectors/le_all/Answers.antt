@@ -1,23 +1,16 @@
--- The four places are compared one after the other; the first that fails decides.
-use Rattle.points.specs.Vectors.{le_all}
-use Rattle.points.proofs.TestLaws.{and-stop, and-go, and-true}
+-- `all` over the pairs is the test of each pair in turn.
+use mathlib.Core.Path.{◌∙◌}
+use native.Mathlib.Omega.{arith}
+use lib.IntN.{ℤ}
+use lib.Signed.{le_z}
+use Rattle.std.proofs.Common.{rules, tests}
+use Rattle.std.proofs.lemmas.Iterator.{YieldsList-from_slice, YieldsList-from_zip}
+use Rattle.std.proofs.lemmas.Iterator.Search.{all_from_yields_List}
+use Rattle.points.proofs.CompareLaws.{le_all-zip}
 use Rattle.points.proofs.vectors.le_all.Goals as goal
 
-pub returns-then-not-at_most : goal.returns-then-not-at_most
-unfolding le_all
-returns-then-not-at_most c = and-stop _ c.at_most.ensures c.if-not-at_most.true
-
-pub returns-then-not-at_most-2 : goal.returns-then-not-at_most-2
-unfolding le_all
-returns-then-not-at_most-2 c =
-    and-go c.at_most.ensures c.if-not-at_most.false (and-stop _ c.at_most-2.ensures c.if-not-at_most-2.true)
-
-pub returns-then-not-at_most-3 : goal.returns-then-not-at_most-3
-unfolding le_all
-returns-then-not-at_most-3 c =
-    and-go c.at_most.ensures c.if-not-at_most.false (and-go c.at_most-2.ensures c.if-not-at_most-2.false (and-stop _ c.at_most-3.ensures c.if-not-at_most-3.true))
-
 pub returns : goal.returns
-unfolding le_all
 returns c =
-    and-go c.at_most.ensures c.if-not-at_most.false (and-go c.at_most-2.ensures c.if-not-at_most-2.false (and-go c.at_most-3.ensures c.if-not-at_most-3.false (and-true _ c.at_most-4.ensures)))
+    all_from_yields_List (λ (p : ℤ × ℤ). le_z p.0 p.1) c.all.new.self _ c.all.result c.all.ensures.ran
+    (YieldsList-from_zip (YieldsList-from_slice c.args.a.now cc) (YieldsList-from_slice c.args.b.now cc)) (λ x r q k. search (rules, tests))
+    ∙ le_all-zip c.args.a.now c.args.b.now (omega arith)
