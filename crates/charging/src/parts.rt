@@ -11,6 +11,9 @@ pub struct Part {
 }
 
 impl Part {
+    // Variables, at most.
+    pub const MOST: usize = 64;
+
     // How the variable v stands: 0, 1, or 2 where it is unset.
     // Kept a number: it is compared with the side of a term and with the dear side of a cost.
     pub fn look(self, v: usize) -> u8
