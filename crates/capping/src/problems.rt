@@ -4,7 +4,6 @@ ghost use Rattle.charging.specs.Rows.{Objectives, costs_of};
 ghost use Rattle.charging.specs.Meets.{Ceiled};
 
 use charging::{Cost, Rows};
-use forcing::Goal;
 
 // Rows to meet, up to four objectives, ceilings with a cap each that no feasible assignment passes, and an order of the variables, a hint.
 // Objective i has the n costs from i * n on, and so has ceiling i.
@@ -28,18 +27,5 @@ impl<'a> Problem<'a> {
         ensures { result.now ≡ costs_of self.now.rows.n self.now.costs.now i }
     {
         charging::costs_of(self.rows.n, self.costs, i)
-    }
-
-    // To meet the rows within the ceilings.
-    pub fn ceiled(&self) -> Goal<'a>
-        ensures rows { result.rows ≡ self.now.rows }
-        ensures costs { result.costs.now ≡ self.now.ceilings.now }
-        ensures caps { result.caps.now ≡ self.now.caps.now }
-    {
-        Goal {
-            rows: self.rows,
-            costs: self.ceilings,
-            caps: self.caps,
-        }
     }
 }

@@ -1,9 +1,20 @@
--- As earlier_at, at the places from 0 on.
-use mathlib.Core.Path.{sym}
+use native.Mathlib.Omega.{arith}
+use Prim.Native.Nat.{◌-◌}
 use Rattle.capping.specs.Caps.{at}
-use Rattle.seeking.specs.Stocks.{from}
-use Rattle.seeking.proofs.StockLaws.{from_zero, lex-both}
+use Rattle.capping.proofs.OrderLaws.{lex-le, lex-here, equal-more, equal-end}
 use Rattle.seeking.proofs.vectors.earlier.Goals as goal
 
-pub returns : goal.returns
-returns c = (λ z. lex-both c.args.k (from c.args.f.now 0) (at c.args.f.now) (from c.args.g.now 0) (at c.args.g.now) (from_zero c.args.k c.args.f.now) (from_zero c.args.k c.args.g.now) (c.earlier_at.ensures.0 z), λ z h. c.earlier_at.ensures.1 z (lex-both c.args.k (at c.args.f.now) (from c.args.f.now 0) (at c.args.g.now) (from c.args.g.now 0) (λ i z. sym (from_zero c.args.k c.args.f.now i z)) (λ i z. sym (from_zero c.args.k c.args.g.now i z)) h))
+pub returns-then-f-j-clause-yes : goal.returns-then-f-j-clause-yes
+returns-then-f-j-clause-yes c _ =
+    c.loop-j.invariant.0 (lex-here (c.args.k - c.loop-j.j) c.loop-j.j (at c.args.f.now) (at c.args.h.now) (omega arith) c.if-f-j.true)
+
+pub returns-then-h-j-clause-no : goal.returns-then-h-j-clause-no
+returns-then-h-j-clause-no c _ h =
+    omega (arith, lex-le (c.args.k - c.loop-j.j) c.loop-j.j (at c.args.f.now) (at c.args.h.now) (c.loop-j.invariant.1 h), c.if-h-j.true)
+
+pub loop-j-preserved : goal.loop-j-preserved
+loop-j-preserved c =
+    equal-more c.args.k c.loop-j.j (at c.args.f.now) (at c.args.h.now) c.loop-j-test.true (omega (arith, c.if-f-j.false, c.if-h-j.false)) c.loop-j.invariant
+
+pub returns-clause-no : goal.returns-clause-no
+returns-clause-no c _ h = equal-end c.args.k c.loop-j.j (at c.args.f.now) (at c.args.h.now) (omega arith) c.loop-j.invariant h
