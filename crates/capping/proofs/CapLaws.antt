@@ -13,11 +13,11 @@ use Rattle.charging.specs.declared.parts.Part.{Part}
 use Rattle.charging.specs.declared.rows.Cost.{Cost}
 use Rattle.charging.specs.Rows.{hit, of, gap, dear, Completes, cost, Costs, costs_of}
 use Rattle.charging.specs.Meets.{Meets, Charged}
-use Rattle.charging.proofs.SumLaws.{eq-or, span-le, hit-le}
+use Rattle.charging.proofs.SumLaws.{eq-or, lt-or, span-le, hit-le}
 use Rattle.capping.specs.declared.trades.Trade.{Trade}
 use Rattle.capping.specs.declared.problems.Problem.{Problem}
 use Rattle.capping.specs.Caps.{less, at, row, Above, Below, Within, Fresh, Before, Seeks, Tight, Capped, Low, vec}
-use Rattle.capping.proofs.OrderLaws.{lt-or, lex-le, lex-empty, lex-on}
+use Rattle.capping.proofs.OrderLaws.{lex-le, lex-empty, lex-on}
 
 -- capping place j at c
 cap-at : (k : ℕ) (cap : List ℕ) (j c : ℕ) (f : ℕ → ℕ) → j < length cap → Below k cap f → f j ≤ c → Below k (set cap j c) f

@@ -5,9 +5,7 @@ use mathlib.Core.Bool.{Bool, true, false}
 use Prim.Native.Nat.{ℕ, zero, suc, ◌+◌, ◌-◌, ◌≤◌, ◌<◌}
 use native.Mathlib.Nat.{not-suc-le-zero}
 use native.Mathlib.Omega.{arith}
-use borrow.Author.Tests.{ltb-true, ltb-false}
-use lib.Dec.{ltb}
-use Rattle.charging.proofs.SumLaws.{eq-or}
+use Rattle.charging.proofs.SumLaws.{eq-or, lt-or}
 use Rattle.capping.specs.Caps.{less}
 
 pub no : {A : Type 0} → ◌≡◌ {A = Bool} true false → A
@@ -15,13 +13,6 @@ no e = absurd (let z : ◌≡◌ {A = ℕ} 0 1 = cc in omega arith)
 
 pub on : {A : Type 0} → ◌≡◌ {A = Bool} false true → A
 on e = absurd (let z : ◌≡◌ {A = ℕ} 0 1 = cc in omega arith)
-
-pub lt-or : (x y : ℕ) → (x < y) ⊎ (y ≤ x)
-lt-or x y = split (ltb x y) refl
-  where
-    split : (t : Bool) → ltb x y ≡ t → (x < y) ⊎ (y ≤ x)
-    split true e = inl (ltb-true x y e)
-    split false e = inr (ltb-false x y e)
 
 -- R3, one place
 pub lex-le : (m j : ℕ) (f g : ℕ → ℕ) → less m j f g → f j ≤ g j

@@ -17,6 +17,13 @@ eq-or a b = split (eqb a b) refl
     split true e = inl (eqb-true a b e)
     split false e = inr (eqb-false a b e)
 
+pub lt-or : (a b : ℕ) → (a < b) ⊎ (b ≤ a)
+lt-or a b = split (ltb a b) refl
+  where
+    split : (t : Bool) → ltb a b ≡ t → (a < b) ⊎ (b ≤ a)
+    split true e = inl (ltb-true a b e)
+    split false e = inr (ltb-false a b e)
+
 pub span_none : (f : ℕ → ℕ) (a : ℕ) → span f a 0 ≡ 0
 unfolding span
 span_none f a = refl
