@@ -181,3 +181,6 @@ pub below-front : (k : ℕ) (cap : List ℕ) (f : ℕ → ℕ) → Below k cap f
 below-front k cap f b i l =
     let z : i < k = omega (arith, length-take k cap) in
     omega (arith, b i z, get_or-take k cap i 0 z)
+
+pub front-below : (k : ℕ) (cap : List ℕ) (f : ℕ → ℕ) → k ≤ length cap → ((i : ℕ) → i < length (take k cap) → f i ≤ get_or (take k cap) i 0) → Below k cap f
+front-below k cap f l b i z = omega (arith, b i (omega (arith, length-take k cap)), get_or-take k cap i 0 z)

@@ -115,7 +115,7 @@ module _ (k : ℕ) (trade : Trade) (points : List Trade) (j : ℕ) (l : j < leng
   free_new h fr b = fr (subst (λ (t : Trade). Within k (at t.costs) h) (sym set-here) b)
 
   -- what is at a place after is the trade, or was there before
-  set-cases : (P : Trade → Type 0) (u : ℕ) → (u ≡ j → P trade) → ((u ≡ j → ⊥) → P (get_or points u no_trade)) → P (get_or (set points j trade) u no_trade)
+  pub set-cases : (P : Trade → Type 0) (u : ℕ) → (u ≡ j → P trade) → ((u ≡ j → ⊥) → P (get_or points u no_trade)) → P (get_or (set points j trade) u no_trade)
   set-cases P u a b =
       ⊎_elim (λ e. subst P (sym (ap (λ (v : ℕ). get_or (set points j trade) v no_trade) e ∙ set-here)) (a e)) (λ e. subst P (sym (set-other u e)) (b e)) (eq-or u j)
 
