@@ -56,9 +56,6 @@ smallest-same n W U a f g s = record { wanted = f (bit a) s.wanted; fits = s.fit
 -- ---- Sifted
 
 module _ (k : ℕ) (listed points₀ : List Trade) (c₀ : ℕ) where
-  pub sifted-none : Sifted k listed points₀ c₀ points₀ c₀
-  sifted-none = record { fewer = omega arith; came = λ u z. record { place = u; inside = z; here = refl }; kept = λ h _ y. y }
-
   -- the last of c + 1 trades goes to the place of one that is not fresh
   pub sifted-drop : (points : List Trade) (c j : ℕ) → Sifted k listed points₀ c₀ points (c + 1) → j < c + 1 → j < length points → (Fresh k listed (length listed) (row points j) → ⊥)
       → Sifted k listed points₀ c₀ (set points j (get_or points c no_trade)) c
@@ -72,12 +69,6 @@ module _ (k : ℕ) (listed points₀ : List Trade) (c₀ : ℕ) where
             (λ q. let w : v ≡ c = omega (arith, z, q) in subst (λ (r : ℕ). Within k (row points r) h → ⊥) (sym w) (free_new k (get_or points c no_trade) points j jp h (y j (omega (arith, e, w)))))
             (lt-or v c)) (eq-or v j));
       }
-
-held_none : (P : Trade → Type 0) (k : ℕ) (points : List Trade) → Held P k points (record { count = 0; limit = None })
-held_none P k points = record { room = omega arith; each = λ j z. absurd (not-suc-le-zero z); limited = λ top e. cc }
-
-pub gather_none : (problem : Problem) (listed points : List Trade) → Held (Found problem listed) problem.count points (record { count = 0; limit = None })
-gather_none problem listed = held_none (Found problem listed) problem.count
 
 -- ---- Stocked
 

@@ -31,9 +31,6 @@ cap-at k cap j c f l b h i z =
 abbrev pub Ahead : ℕ → List ℕ → List ℕ → List ℕ → List ℕ → ℕ → Type 0
 Ahead k lb top cap₀ cap j = (f : ℕ → ℕ) → Above k lb f → Below k cap₀ f → less k 0 f (at top) → (Below k cap f) × less (k - j) j f (at top)
 
-pub ahead_none : (k : ℕ) (lb top cap : List ℕ) → Ahead k lb top cap cap 0
-ahead_none k lb top cap f a b h = (b, let e : k - 0 ≡ k = omega arith in rw e h)
-
 module _ (k : ℕ) (lb top cap₀ cap : List ℕ) (j : ℕ) (old : Ahead k lb top cap₀ cap j) where
   pub ahead-cap : j < length cap → j < k → Ahead k lb top cap₀ (set cap j (min (get_or cap j 0) (get_or top j 0))) j
   ahead-cap l z f a b h =
@@ -62,30 +59,7 @@ abbrev pub Single : List ℕ → List ℕ → Option ℕ → ℕ → Type 0
 Single lb t (Some u) i = (u < i) × (get_or lb u 0 < get_or t u 0) × ((v : ℕ) → v < i → (v ≡ u → ⊥) → get_or t v 0 ≤ get_or lb v 0)
 Single lb t None i = (v : ℕ) → v < i → get_or t v 0 ≤ get_or lb v 0
 
-pub single-new : (lb t : List ℕ) (i : ℕ) → get_or lb i 0 < get_or t i 0 → Single lb t None i → Single lb t (Some i) (i + 1)
-single-new lb t i h s = (omega arith, h, λ v l e. s v (omega (arith, e)))
-
-pub single-old : (lb t : List ℕ) (only : Option ℕ) (i : ℕ) → get_or t i 0 ≤ get_or lb i 0 → Single lb t only i → Single lb t only (i + 1)
-single-old lb t (Some u) i h s = (omega (arith, s.0), s.1, below_more (λ (v : ℕ). (v ≡ u → ⊥) → get_or t v 0 ≤ get_or lb v 0) i s.2 (λ _. h))
-single-old lb t None i h s = below_more (λ (v : ℕ). get_or t v 0 ≤ get_or lb v 0) i s h
-
-pub single-cap : (k : ℕ) (lb t cap : List ℕ) (u i : ℕ) → i ≡ k → u < length cap → Single lb t (Some u) i
-    → Tight k lb cap (λ (f : ℕ → ℕ). Within k (at t) f → ⊥) (Some (set cap u (min (get_or cap u 0) (get_or t u 0 - 1))))
-single-cap k lb t cap u i e l s f a b free = cap-at k cap u (min (get_or cap u 0) (get_or t u 0 - 1)) f l b (omega (arith, beaten, b u (omega (arith, s.0))))
-  where
-    beaten : f u < get_or t u 0
-    beaten =
-        ⊎_elim (λ z. z)
-        (λ z. absurd (free (λ v y. ⊎_elim (λ q. subst (λ (w : ℕ). get_or t w 0 ≤ f w) (sym q) z) (λ q. omega (arith, s.2 v (omega arith) q, a v y)) (eq-or v u))))
-        (lt-or (f u) (get_or t u 0))
-
-pub single-off : (k : ℕ) (lb t cap : List ℕ) (i : ℕ) → i ≡ k → Single lb t None i → Tight k lb cap (λ (f : ℕ → ℕ). Within k (at t) f → ⊥) None
-single-off k lb t cap i e s f a b free = free (λ v p. omega (arith, s v (omega arith), a v p))
-
 module _ (k : ℕ) (lb : List ℕ) where
-  pub tight-same : (cap : List ℕ) (Q : (ℕ → ℕ) → Type 0) → Tight k lb cap Q (Some cap)
-  tight-same cap Q f a b q = b
-
   -- more is asked, and what comes after is asked too
   pub tight-then : (cap cap' : List ℕ) (Q R S : (ℕ → ℕ) → Type 0) (r : Option (List ℕ)) → ((f : ℕ → ℕ) → S f → Q f × R f)
       → Tight k lb cap Q (Some cap') → Tight k lb cap' R r → Tight k lb cap S r
@@ -110,13 +84,6 @@ cost-le n costs x c l =
     omega (arith, c.long)
 
 module _ (problem : Problem) (p : Part) where
-  pub low-more : (i : ℕ) (lb : List ℕ) (r : ℕ) (res : List ℕ) → i < length lb → Low problem i p lb
-      → Charged problem.rows (costs_of problem.rows.n problem.costs.now i) (of p) r res → Low problem (i + 1) p (set lb i r)
-  low-more i lb r res l old e =
-      below_more (λ (j : ℕ). (x : ℕ → ℕ) → Completes problem.rows.n (of p) x → Meets problem.rows x → get_or (set lb i r) j 0 ≤ vec problem x j) i
-      (λ j y x c m. let q = old j y x c m in omega (arith, get_or-set_other lb i j r 0 (λ q. omega arith)))
-      (λ x c m. let q = e.bound x c m in omega (arith, get_or-set_same lb i r 0 l))
-
   -- no vector is above the caps that capping begins with
   pub capped-low : (lb cap : List ℕ) (Q : (ℕ → ℕ) → Type 0) (W : (ℕ → ℕ) → Type 0) (r : Option (List ℕ))
       → Low problem problem.count p lb → ((i : ℕ) → i < problem.count → get_or cap i 0 ≡ 2 ^ 40) → ((x : ℕ → ℕ) → W x → Meets problem.rows x × Q (vec problem x))

@@ -28,6 +28,7 @@ pub fn ahead(k: usize, low: &Vector, limit: Option<Vector>, cap: Vector) -> Opti
         return Some(cap);
     };
     let mut cap = cap;
+    // Kept by index: three vectors are read in step, and one of them is written.
     for j in 0..k {
         if top[j] < low[j] {
             return None;
@@ -46,6 +47,7 @@ pub fn point(k: usize, low: &Vector, costs: &Vector, cap: Vector) -> Option<Vect
     ensures { Tight k low.now cap (λ (f : ℕ → ℕ). Within k (at costs.now) f → ⊥) result }
 {
     let mut only: Option<usize> = None;
+    // Kept by index: the place itself is what is sought.
     for i in 0..k {
         if low[i] < costs[i] {
             if only.is_some() {

@@ -101,9 +101,6 @@ module _ (rows : Rows) where
       → (x : ℕ → ℕ) → Completes rows.n val x → Meets rows x → x (variable (terms_of rows h) j) ≡ side (terms_of rows h) j → ⊥
   forced val h j l i u r x c m e = omega (arith, given-less rows.n (terms_of rows h) (row_terms rows h l) val x c j i u e, m h l)
 
-  pub step-none : (costs : List Cost) (val : ℕ → ℕ) (res : List ℕ) → Step rows costs val res res 0
-  step-none costs val res = record { low = omega arith; falls = λ x c m. omega arith }
-
   pub step-one : (costs : List Cost) (val : ℕ → ℕ) (res res' : List ℕ) (h m : ℕ) → Costs rows.n costs → h < count rows
       → span (spare_at (terms_of rows h) val costs res) 0 (length (terms_of rows h)) < need rows h
       → m ≤ 2 ^ 34 → Least (terms_of rows h) costs res (length (terms_of rows h)) m
@@ -138,28 +135,6 @@ opening n val costs res cs o x c = sum-add _ _ _ (length costs) one
 pub charge-none : (rows : Rows) (val : ℕ → ℕ) (costs : List Cost) (b : ℕ) (res : List ℕ)
     → Costs rows.n costs → Owed (length costs) val costs res → b ≡ cost costs val → Charged rows costs val b res
 charge-none rows val costs b res cs e z = record { bound = λ x k m. let one = opening rows.n val costs res cs e x k in omega arith }
-
-pub paid-none : (n : ℕ) (terms : List Term) (costs : List Cost) (m : ℕ) (res : List ℕ) → Paid n terms costs 0 m res res
-paid-none n terms costs m res = record { down = λ v l. le_refl (get_or res v 0); each = λ k l. absurd (not-suc-le-zero l) }
-
-pub paid-more : (n : ℕ) (terms : List Term) (costs : List Cost) (j m : ℕ) (res now' : List ℕ) (r : ℕ) → variable terms j < n → variable terms j < length now'
-    → Paid n terms costs j m res now'
-    → r ≤ get_or now' (variable terms j) 0
-    → ((dear costs (variable terms j) ≡ side terms j → ⊥) → r ≤ get_or now' (variable terms j) 0 - m)
-    → Paid n terms costs (j + 1) m res (set now' (variable terms j) r)
-paid-more n terms costs j m res now' r ln lr old low less =
-    record {
-      down = λ v l. let one = fall v in let two = old.down v l in omega arith;
-      each = below_more (λ (k : ℕ). (dear costs (variable terms k) ≡ side terms k → ⊥) → get_or (set now' u r) (variable terms k) 0 ≤ get_or res (variable terms k) 0 - m) j
-          (λ k l p. let one = fall (variable terms k) in let two = old.each k l p in omega arith)
-          (λ p. let one = less p in let two = old.down u ln in let three : get_or (set now' u r) u 0 ≡ r = get_or-set_same now' u r 0 lr in omega arith);
-    }
-  where
-    u : ℕ
-    u = variable terms j
-
-    fall : (v : ℕ) → get_or (set now' u r) v 0 ≤ get_or now' v 0
-    fall v = ⊎_elim (λ e. subst (λ (z : ℕ). get_or (set now' u r) z 0 ≤ get_or now' z 0) (sym e) (rw (get_or-set_same now' u r 0 lr) low)) (λ e. rw (get_or-set_other now' u v r 0 e) (le_refl (get_or now' v 0))) (eq-or v u)
 
 pub owed_none : (val : ℕ → ℕ) (costs : List Cost) (res : List ℕ) → Owed 0 val costs res
 owed_none val costs res = record { open' = λ v l. absurd (not-suc-le-zero l); shut = λ v l. absurd (not-suc-le-zero l) }

@@ -158,7 +158,3 @@ spare-le y off dear r w =
     (λ f. ⊎_elim (λ g. omega (arith, spare-paid y off dear r w e f g)) (λ g. omega (arith, spare-charged y off dear r w e f g)) (eq-or r 0))
     (eq-or dear off))
     (eq-or y off)
-
-pub spare-two : (y off dear r w : ℕ) → (y ≡ off → ⊥) → (dear ≡ off → ⊥) → spare y off dear r w ≡ pick (eqb r 0) w 0
-unfolding spare
-spare-two y off dear r w e f = rw (ne_eqb y off e, ne_eqb dear off f)

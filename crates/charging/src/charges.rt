@@ -13,6 +13,7 @@ pub fn sure(costs: &[Cost], p: Part) -> u64
     requires { Costs (length costs.now) costs.now × (length costs.now ≤ 64) }
     ensures { (result ≡ cost costs.now (of p)) × (result ≤ 64 * 2 ^ 34) }
 {
+    // Kept a loop, as in `reach`.
     let mut sum: u64 = 0;
     for (v, cost) in costs.iter().enumerate() {
         sum += cost.charged(p.look(v));

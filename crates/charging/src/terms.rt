@@ -11,6 +11,7 @@ pub fn reach(terms: &[Term], p: Part) -> u64
     requires { Terms 64 terms.now }
     ensures { result ≡ given terms.now (of p) }
 {
+    // Kept a loop: the bound of the sum follows from the contract of `given`, which the chain's `sum` does not see.
     let mut sum: u64 = 0;
     for term in terms {
         sum += term.given(p.look(term.variable as usize));

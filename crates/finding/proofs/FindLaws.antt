@@ -13,7 +13,7 @@ use Rattle.charging.proofs.BitLaws.{bit-two, seen-unset, seen-set}
 use Rattle.narrowing.specs.Parts.{Good, Put, Leads, Hopeless}
 use Rattle.narrowing.proofs.PartLaws.{narrows-back}
 use Rattle.forcing.specs.declared.goals.Goal.{Goal}
-use Rattle.forcing.specs.Goals.{many, objective, cap}
+use Rattle.forcing.specs.Goals.{many, objective, cap_of}
 use Rattle.forcing.proofs.ForceLaws.{cost-up}
 use Rattle.finding.specs.Finding.{Branch, Found, Finds, Tells, Cheap}
 
@@ -50,9 +50,6 @@ module _ (n : ℕ) (W : (ℕ → ℕ) → Type 0) where
         agrees = λ k i z. ⊎_elim (λ y. ap x y ∙ e ∙ sym t.here ∙ ap (of q) (sym y)) (λ y. let o = t.others k y in c.agrees k i (λ f. z (o ∙ f)) ∙ sym o) (eq-or k v);
       }
 
-  pub tells-yes : (p : Part) → W (of p) → Tells n W p true
-  tells-yes p f = record { yes = λ _. f; no = λ e. absurd (let z : ◌≡◌ {A = ℕ} 0 1 = cc in omega arith) }
-
   pub tells-no : (p : Part) → Hopeless n W p → Tells n W p false
   tells-no p f = record { yes = λ e. absurd (let z : ◌≡◌ {A = ℕ} 0 1 = cc in omega arith); no = λ _. f }
 
@@ -67,9 +64,6 @@ module _ (n : ℕ) (W : (ℕ → ℕ) → Type 0) where
     find-leaf b false t = finds-cut None (t.no refl)
 
     module _ (v b : ℕ) (q₀ : Part) (u : of q v ≡ 2) (t₀ : Put n q v b q₀) where
-      pub find-one : (r : Part) → Found n W q₀ r → Found n W p r
-      find-one r f = finds-cut (Some r) (record { completes = child-back q v b q₀ t₀ u (of r) f.completes; wanted = f.wanted; fits = f.fits })
-
       -- the first child has none
       pub find-two : (q₁ : Part) (r : Option Part) → v < n → b < 2 → Put n q v (1 - b) q₁ → Hopeless n W q₀ → Finds n W q₁ r → Finds n W p r
       find-two q₁ (Some r) l two t₁ none f =
@@ -78,5 +72,5 @@ module _ (n : ℕ) (W : (ℕ → ℕ) → Type 0) where
           finds-cut None
           (λ x c w. ⊎_elim (λ z. none x (child-keep q v b q₀ t₀ l x c z) w) (λ z. f x (child-keep q v (1 - b) q₁ t₁ l x c (other (x v) b (c.bits v l) two z)) w) (eq-or (x v) b))
 
-pub too-dear : (goal : Goal) (p : Part) (i : ℕ) → i < many goal → cap goal i < cost (objective goal i) (of p) → Hopeless goal.rows.n (Cheap goal) p
+pub too-dear : (goal : Goal) (p : Part) (i : ℕ) → i < many goal → cap_of goal i < cost (objective goal i) (of p) → Hopeless goal.rows.n (Cheap goal) p
 too-dear goal p i l h x c w = let u = cost-up goal.rows.n (of p) (objective goal i) (goal.priced.each i l) x c in let z = w i l in omega arith

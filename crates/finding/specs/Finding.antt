@@ -4,7 +4,7 @@ use Rattle.charging.specs.declared.parts.Part.{Part}
 use Rattle.charging.specs.Rows.{of, Completes, cost}
 use Rattle.narrowing.specs.Parts.{Hopeless}
 use Rattle.forcing.specs.declared.goals.Goal.{Goal}
-use Rattle.forcing.specs.Goals.{many, objective, cap}
+use Rattle.forcing.specs.Goals.{many, objective, cap_of}
 
 -- An unset variable of p, or p is complete.
 abbrev pub Branch : ℕ → Part → Option ℕ → Type 0
@@ -29,4 +29,4 @@ pub record Tells (n : ℕ) (W : (ℕ → ℕ) → Type 0) (p : Part) (r : Bool) 
 
 -- Each objective costs at most its cap.
 abbrev pub Cheap : Goal → (ℕ → ℕ) → Type 0
-Cheap goal x = (i : ℕ) → i < many goal → cost (objective goal i) x ≤ cap goal i
+Cheap goal x = (i : ℕ) → i < many goal → cost (objective goal i) x ≤ cap_of goal i

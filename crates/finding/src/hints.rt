@@ -10,11 +10,10 @@ pub fn branch(n: usize, order: &[usize], p: Part) -> Option<usize>
     requires { n ≤ 64 }
     ensures { Branch n p result }
 {
-    for v in order {
-        if *v < n && p.look(*v) == 2 {
-            return Some(*v);
-        }
+    if let Some(v) = order.iter().find(|v| **v < n && p.look(**v) == 2) {
+        return Some(*v);
     }
+    // Kept a loop: the contract of a range's `find` left open that it went over all variables.
     for v in 0..n {
         if p.look(v) == 2 {
             return Some(v);

@@ -23,6 +23,7 @@ pub use hints::{branch, cheaper};
 pub fn met(rows: &Rows<'_>, p: Part) -> bool
     ensures { Tells rows.now.n (Meets rows.now) p result }
 {
+    // Kept a loop, as the one below: what a closure of `all` asks of the row's number stayed open.
     for (h, need) in rows.needs.iter().enumerate() {
         if charging::reach(rows.terms_of(h), p) < *need {
             return false;

@@ -17,7 +17,7 @@ use Rattle.charging.proofs.ChargeLaws.{rest-one}
 use Rattle.narrowing.specs.Parts.{Leads, Cuts, Maybe}
 use Rattle.narrowing.proofs.PartLaws.{maybe-leads, cuts-then, cuts-less}
 use Rattle.forcing.specs.declared.goals.Goal.{Goal}
-use Rattle.forcing.specs.Goals.{many, objective, cap, Under, Wanted}
+use Rattle.forcing.specs.Goals.{many, objective, cap_of, Under, Wanted}
 
 -- what is sure is a lower bound
 pub cost-up : (n : ℕ) (y : ℕ → ℕ) (costs : List Cost) → Costs n costs → (x : ℕ → ℕ) → Completes n y x → cost costs y ≤ cost costs x
@@ -48,13 +48,3 @@ module _ (rows : Rows) (costs : List Cost) (cs : Costs rows.n costs) (m b : ℕ)
 
   pub over : m < b → (x : ℕ → ℕ) → Completes rows.n (of p) x → Under rows costs m x → ⊥
   over l x c wt = let two = ch.bound x c wt.meets in omega (arith, wt.under)
-
--- a goal's objectives and its rows are what the goal asks, one after the other
-module _ (goal : Goal) (p q : Part) (a : Leads goal.rows.n (Wanted goal) p q) (r : Option Part) where
-  pub cuts-cap : (i : ℕ) → i < many goal → Cuts goal.rows.n (Under goal.rows (objective goal i) (cap goal i)) q r → Cuts goal.rows.n (Wanted goal) p r
-  cuts-cap i l c =
-      cuts-then goal.rows.n (Wanted goal) p q r a
-      (cuts-less goal.rows.n (Under goal.rows (objective goal i) (cap goal i)) (Wanted goal) q r (λ x _ u. record { meets = u.meets; under = u.under i l }) c)
-
-  pub cuts-rows : Cuts goal.rows.n (Meets goal.rows) q r → Cuts goal.rows.n (Wanted goal) p r
-  cuts-rows c = cuts-then goal.rows.n (Wanted goal) p q r a (cuts-less goal.rows.n (Meets goal.rows) (Wanted goal) q r (λ x _ u. u.meets) c)

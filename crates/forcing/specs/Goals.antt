@@ -13,8 +13,8 @@ many goal = length goal.caps.now
 abbrev pub objective : Goal → ℕ → List Cost
 objective goal i = costs_of goal.rows.n goal.costs.now i
 
-abbrev pub cap : Goal → ℕ → ℕ
-cap goal i = get_or goal.caps.now i 0
+abbrev pub cap_of : Goal → ℕ → ℕ
+cap_of goal i = get_or goal.caps.now i 0
 
 -- x meets the rows, and costs at most m.
 pub record Under (rows : Rows) (costs : List Cost) (m : ℕ) (x : ℕ → ℕ) : Type 0 where
@@ -24,4 +24,4 @@ pub record Under (rows : Rows) (costs : List Cost) (m : ℕ) (x : ℕ → ℕ) :
 -- x meets the rows, and costs at most the cap by each objective.
 pub record Wanted (goal : Goal) (x : ℕ → ℕ) : Type 0 where
   pub meets : Meets goal.rows x
-  pub under : (i : ℕ) → i < many goal → cost (objective goal i) x ≤ cap goal i
+  pub under : (i : ℕ) → i < many goal → cost (objective goal i) x ≤ cap_of goal i

@@ -37,9 +37,6 @@ module _ (n : ℕ) (W : (ℕ → ℕ) → Type 0) where
   pub narrows-unset : (y y' : ℕ → ℕ) → Narrows n W y y' → (v : ℕ) → v < n → y' v ≡ 2 → y v ≡ 2
   narrows-unset y y' a v l e = ⊎_elim (λ z. z) (λ z. absurd (z (sym (a.more v l z) ∙ e))) (eq-or (y v) 2)
 
-  pub leads-refl : (p : Part) → Good n p → Leads n W p p
-  leads-refl p g = record { good = g; narrows = narrows-refl (of p); fewer = le_refl p.left }
-
   pub leads-trans : (p q r : Part) → Leads n W p q → Leads n W q r → Leads n W p r
   leads-trans p q r a b = record { good = b.good; narrows = narrows-trans (of p) (of q) (of r) a.narrows b.narrows; fewer = omega (arith, a.fewer, b.fewer) }
 

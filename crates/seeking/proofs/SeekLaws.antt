@@ -108,9 +108,6 @@ module _ (problem : Problem) (listed : List Trade) where
 
 -- a complete part, whose vector is f
 module _ (problem : Problem) (listed : List Trade) (q : Part) (points : List Trade) (stock : Stock) (held : Held (Found problem listed) problem.count points stock) where
-  pub leaf-unmet : Tells problem.rows.n (Meets problem.rows) q false → Gathers problem listed q points stock points stock
-  leaf-unmet t = gathers-stays problem listed q points stock held (λ x z u. t.no refl x z u.meets)
-
   module _ (f : ℕ → ℕ) (o : Same problem.count f (vec problem (of q))) where
     under : (x : ℕ → ℕ) → Completes problem.rows.n (of q) x → Within problem.count f (vec problem x)
     under x z i j = omega (arith, o i j, cost-up problem.rows.n (of q) (costs_of problem.rows.n problem.costs.now i) (problem.priced.each i j) x z)

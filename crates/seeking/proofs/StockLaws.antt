@@ -67,9 +67,6 @@ module _ (points : List Trade) (c : ℕ) (l : c ≤ length points) where
   back-row : (P : (ℕ → ℕ) → Type 0) (q : ℕ) → q < c → P (row points q) → P (row (take c points) q)
   back-row P q i = subst (λ (t : Trade). P (at t.costs)) (sym (front-at q i))
 
-  pub fresh-front : (k : ℕ) (f : ℕ → ℕ) → Fresh k (take c points) (length (take c points)) f → Fresh k points c f
-  fresh-front k f fr q i w = fr q (omega (arith, front_length)) (back-row (λ (g : ℕ → ℕ). Within k g f) q i w)
-
   pub fresh-back : (k : ℕ) (f : ℕ → ℕ) → Fresh k points c f → Fresh k (take c points) (length (take c points)) f
   fresh-back k f fr q i w = let z : q < c = omega (arith, front_length) in fr q z (front-row (λ (g : ℕ → ℕ). Within k g f) q z w)
 

@@ -27,7 +27,7 @@ pub fn least(k: usize, trades: &[Trade]) -> usize
     best
 }
 
-// A greatest of the trades.
+// A greatest of the trades. Kept beside `least`: a function over both orders would need the order's laws as parameters, and is longer.
 pub fn greatest(k: usize, trades: &[Trade]) -> usize
     requires { (k ≤ 4) × (1 ≤ length trades.now) }
     ensures { (result < length trades.now) × Greatest k trades.now (length trades.now) result }
@@ -46,12 +46,7 @@ pub fn worse(k: usize, f: &Vector, trades: &[Trade]) -> Option<usize>
     requires { k ≤ 4 }
     ensures { Worse k (at f.now) trades.now result }
 {
-    for (j, trade) in trades.iter().enumerate() {
-        if within(k, f, &trade.costs) {
-            return Some(j);
-        }
-    }
-    None
+    trades.iter().position(|trade| within(k, f, &trade.costs))
 }
 
 // The trade against the gathered ones where there is no room for more: the greatest of them and it is left out, and becomes the limit.

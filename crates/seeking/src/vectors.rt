@@ -24,12 +24,7 @@ pub fn within(k: usize, f: &Vector, h: &Vector) -> bool
     ensures yes { result ≡ true → Within k (at f.now) (at h.now) }
     ensures no { result ≡ false → Within k (at f.now) (at h.now) → ⊥ }
 {
-    for i in 0..k {
-        if h[i] < f[i] {
-            return false;
-        }
-    }
-    true
+    (0..k).all(|i| f[i] <= h[i])
 }
 
 // Whether none of the trades weakly dominates f.
@@ -38,6 +33,7 @@ pub fn fresh(k: usize, f: &Vector, trades: &[Trade]) -> bool
     ensures yes { result ≡ true → Fresh k trades.now (length trades.now) (at f.now) }
     ensures no { result ≡ false → Fresh k trades.now (length trades.now) (at f.now) → ⊥ }
 {
+    // Kept a loop: the contract of `all` or `any` left open which trade it was.
     for trade in trades {
         if within(k, &trade.costs, f) {
             return false;
@@ -52,15 +48,7 @@ pub fn earlier(k: usize, f: &Vector, h: &Vector) -> bool
     ensures yes { result ≡ true → less k 0 (at f.now) (at h.now) }
     ensures no { result ≡ false → less k 0 (at f.now) (at h.now) → ⊥ }
 {
-    for j in 0..k {
-        if f[j] < h[j] {
-            return true;
-        }
-        if h[j] < f[j] {
-            return false;
-        }
-    }
-    false
+    f[..k] < h[..k]
 }
 
 // Whether f comes before the limit, if there is one.

@@ -5,5 +5,5 @@ use Prim.Native.Nat.{ℕ, ◌<◌}
 use Rattle.charging.specs.Rows.{of}
 use Rattle.finding.proofs.hints.branch.Given as goal
 
-abbrev pub invariant-loop-v-2 : goal.invariant-loop-v-2
-invariant-loop-v-2 l = (k : ℕ) → k < l.v → of l.p k ≡ 2 → ⊥
+abbrev pub invariant-loop-v : goal.invariant-loop-v
+invariant-loop-v l = (k : ℕ) → k < l.v → of l.p k ≡ 2 → ⊥
