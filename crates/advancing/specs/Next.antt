@@ -1,15 +1,32 @@
 -- Document 01, 'The front': the point that comes next in the list, over normal tables. An assignment is a number, bit v of it the variable v.
-use Rattle.std.specs.Prelude.{◌≡◌, Bool, true, false, List, ℕ, ◌^◌, ◌≤◌, ◌<◌, get_or}
-use Rattle.charging.specs.Rows.{bit, Meets}
-use Rattle.capping.specs.Caps.{vec, less, at}
+use Rattle.std.specs.Prelude.{Option, Some, None, List, ℕ, ◌^◌, ◌≤◌, ◌<◌}
+use Rattle.charging.specs.Rows.{bit}
+use Rattle.charging.specs.Meets.{Meets}
+use Rattle.capping.specs.declared.trades.Trade.{Trade}
+use Rattle.capping.specs.declared.problems.Problem.{Problem}
+use Rattle.capping.specs.Caps.{vec, less, at, Below}
+use Rattle.seeking.specs.Stocks.{Same}
 use Rattle.seeking.specs.Gathers.{Fit}
 
--- The vector `top` is the least, first objective first, among those of assignments that meet the rows and are weakly dominated by none of the m
--- points of l, and a is the smallest number of an assignment that meets the rows and has exactly that vector; or there is no such assignment.
-pub record Next (n : ℕ) (start tv off w need d dear : List ℕ) (k : ℕ) (l : List ℕ) (m : ℕ) (ok : Bool) (a : ℕ) (top : List ℕ) : Type 0 where
-  pub none : ok ≡ false → (x : ℕ) → x < 2 ^ n → Fit n start tv off w need d dear k l m (bit x) → ⊥
-  pub fits : ok ≡ true → a < 2 ^ n
-  pub fit : ok ≡ true → Fit n start tv off w need d dear k l m (bit a)
-  pub value : ok ≡ true → (i : ℕ) → i < k → vec n d dear (bit a) i ≡ get_or top i 0
-  pub least : ok ≡ true → (x : ℕ) → x < 2 ^ n → Fit n start tv off w need d dear k l m (bit x) → less k 0 (vec n d dear (bit x)) (at top) → ⊥
-  pub first : ok ≡ true → (x : ℕ) → x < 2 ^ n → Meets start tv off w need (bit x) → ((i : ℕ) → i < k → vec n d dear (bit x) i ≡ get_or top i 0) → a ≤ x
+-- x meets the rows, and costs at most `costs` by each objective.
+pub record AtMost (problem : Problem) (costs : List ℕ) (x : ℕ → ℕ) : Type 0 where
+  pub meets : Meets problem.rows x
+  pub below : Below problem.count costs (vec problem x)
+
+-- The trade's vector is the least, first objective first, among those of assignments that meet the rows and are weakly dominated by no listed
+-- trade, and its number is the smallest of an assignment that meets the rows and has exactly that vector.
+pub record IsNext (problem : Problem) (listed : List Trade) (trade : Trade) : Type 0 where
+  pub fits : trade.model < 2 ^ problem.rows.n
+  pub fit : Fit problem listed (bit trade.model)
+  pub value : Same problem.count (vec problem (bit trade.model)) (at trade.costs)
+  pub least : (x : ℕ) → x < 2 ^ problem.rows.n → Fit problem listed (bit x) → less problem.count 0 (vec problem (bit x)) (at trade.costs) → ⊥
+  pub first : (x : ℕ) → x < 2 ^ problem.rows.n → Meets problem.rows (bit x) → Same problem.count (vec problem (bit x)) (at trade.costs) → trade.model ≤ x
+
+-- No assignment meets the rows and is weakly dominated by no listed trade.
+abbrev pub Ended : Problem → List Trade → Type 0
+Ended problem listed = (x : ℕ) → x < 2 ^ problem.rows.n → Fit problem listed (bit x) → ⊥
+
+-- The next trade, or that there is none.
+abbrev pub Next : Problem → List Trade → Option Trade → Type 0
+Next problem listed (Some trade) = IsNext problem listed trade
+Next problem listed None = Ended problem listed

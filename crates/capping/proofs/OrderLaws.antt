@@ -5,9 +5,7 @@ use mathlib.Core.Bool.{Bool, true, false}
 use Prim.Native.Nat.{ℕ, zero, suc, ◌+◌, ◌-◌, ◌≤◌, ◌<◌}
 use native.Mathlib.Nat.{not-suc-le-zero}
 use native.Mathlib.Omega.{arith}
-use borrow.Author.Tests.{ltb-true, ltb-false}
-use lib.Dec.{ltb}
-use Rattle.charging.proofs.SumLaws.{eq-or}
+use Rattle.charging.proofs.SumLaws.{eq-or, lt-or}
 use Rattle.capping.specs.Caps.{less}
 
 pub no : {A : Type 0} → ◌≡◌ {A = Bool} true false → A
@@ -15,13 +13,6 @@ no e = absurd (let z : ◌≡◌ {A = ℕ} 0 1 = cc in omega arith)
 
 pub on : {A : Type 0} → ◌≡◌ {A = Bool} false true → A
 on e = absurd (let z : ◌≡◌ {A = ℕ} 0 1 = cc in omega arith)
-
-pub lt-or : (x y : ℕ) → (x < y) ⊎ (y ≤ x)
-lt-or x y = split (ltb x y) refl
-  where
-    split : (t : Bool) → ltb x y ≡ t → (x < y) ⊎ (y ≤ x)
-    split true e = inl (ltb-true x y e)
-    split false e = inr (ltb-false x y e)
 
 -- R3, one place
 pub lex-le : (m j : ℕ) (f g : ℕ → ℕ) → less m j f g → f j ≤ g j
@@ -32,12 +23,6 @@ lex-le (suc m) j f g h = ⊎_elim (λ e. omega (arith, e)) (λ e. omega (arith, 
 pub lex-empty : (j : ℕ) (f g : ℕ → ℕ) → less 0 j f g → ⊥
 unfolding less
 lex-empty j f g h = h
-
-pub lex-last : (m j : ℕ) (f g : ℕ → ℕ) → m ≡ 1 → less m j f g → f j < g j
-unfolding less
-lex-last zero j f g e h = absurd h
-lex-last (suc zero) j f g e h = ⊎_elim (λ z. z) (λ z. absurd z.1) h
-lex-last (suc (suc m)) j f g e h = absurd (omega arith)
 
 pub lex-on : (m j : ℕ) (f g : ℕ → ℕ) → less m j f g → g j ≤ f j → less (m - 1) (j + 1) f g
 unfolding less
@@ -73,30 +58,6 @@ lex-same zero j k f f' g g' z u v a = a
 lex-same (suc m) j k f f' g g' z u v a =
     ⊎_elim (λ x. inl (omega (arith, x, u j (omega arith), v j (omega arith))))
     (λ x. inr (sym (u j (omega arith)) ∙ x.0 ∙ v j (omega arith), lex-same m (j + 1) k f f' g g' (omega arith) u v x.1)) a
-
-pub lex-here : (m j : ℕ) (f g : ℕ → ℕ) → 1 ≤ m → f j < g j → less m j f g
-unfolding less
-lex-here zero j f g l h = absurd (not-suc-le-zero l)
-lex-here (suc m) j f g l h = inl h
-
-pub lex-next : (m j : ℕ) (f g : ℕ → ℕ) → 1 ≤ m → f j ≡ g j → less (m - 1) (j + 1) f g → less m j f g
-unfolding less
-lex-next zero j f g l e h = absurd (not-suc-le-zero l)
-lex-next (suc m) j f g l e h = let z : suc m - 1 ≡ m = omega arith in inr (e, rw z at h)
-
-abbrev pub Equal : ℕ → ℕ → (ℕ → ℕ) → (ℕ → ℕ) → Type 0
-Equal k j f g = (less (k - j) j f g → less k 0 f g) × (less k 0 f g → less (k - j) j f g)
-
-pub equal-none : (k : ℕ) (f g : ℕ → ℕ) → Equal k 0 f g
-equal-none k f g = let e : k - 0 ≡ k = omega arith in rw e (λ h. h, λ h. h)
-
-pub equal-more : (k j : ℕ) (f g : ℕ → ℕ) → j < k → f j ≡ g j → Equal k j f g → Equal k (j + 1) f g
-equal-more k j f g l e old =
-    let z : k - (j + 1) ≡ k - j - 1 = omega arith in
-    rw z (λ h. old.0 (lex-next (k - j) j f g (omega arith) e h), λ h. lex-on (k - j) j f g (old.1 h) (omega arith))
-
-pub equal-end : (k j : ℕ) (f g : ℕ → ℕ) → k ≤ j → Equal k j f g → less k 0 f g → ⊥
-equal-end k j f g l old h = let z : k - j ≡ 0 = omega arith in lex-empty j f g (rw z at (old.1 h))
 
 pub lex-mono : (m j k : ℕ) (a b c : ℕ → ℕ) → j + m ≤ k → ((i : ℕ) → i < k → a i ≤ b i) → less m j b c → less m j a c
 unfolding less

@@ -1,12 +1,14 @@
--- Vectors in the order of document 01, 'The front' (objective 1, then 2, and so on), weak dominance by listed points, and caps.
-use Rattle.std.specs.Prelude.{◌≡◌, ◌⊎◌, Bool, true, false, List, ℕ, zero, suc, ◌+◌, ◌*◌, ◌^◌, ◌≤◌, ◌<◌, get_or}
-use Rattle.charging.specs.Rows.{Completes, Meets, cost}
-use Rattle.narrowing.specs.declared.Part.{Part}
-use Rattle.narrowing.specs.Parts.{of}
+-- Vectors in the order of document 01, 'The front' (objective 1, then 2, and so on), weak dominance by listed trades, and caps.
+use Rattle.std.specs.Prelude.{◌≡◌, ◌⊎◌, Option, Some, None, List, [], ℕ, zero, suc, ◌+◌, ◌^◌, ◌≤◌, ◌<◌, length, get_or}
+use Rattle.charging.specs.declared.parts.Part.{Part}
+use Rattle.charging.specs.Rows.{of, Completes, cost, costs_of}
+use Rattle.charging.specs.Meets.{Meets}
+use Rattle.capping.specs.declared.trades.Trade.{Trade}
+use Rattle.capping.specs.declared.problems.Problem.{Problem}
 
 -- The vector of x: number i is its cost by objective i.
-abbrev pub vec : ℕ → List ℕ → List ℕ → (ℕ → ℕ) → ℕ → ℕ
-vec n d dear x i = cost n d dear (i * n) x
+abbrev pub vec : Problem → (ℕ → ℕ) → ℕ → ℕ
+vec problem x i = cost (costs_of problem.rows.n problem.costs.now i) x
 
 -- f comes before g by the first of the m places from j on where they differ.
 unfoldable pub less : ℕ → ℕ → (ℕ → ℕ) → (ℕ → ℕ) → Type 0
@@ -17,6 +19,17 @@ less (suc m) j f g = (f j < g j) ⊎ ((f j ≡ g j) × less m (j + 1) f g)
 abbrev pub at : List ℕ → ℕ → ℕ
 at l i = get_or l i 0
 
+-- What stands past the end of a list of trades.
+abbrev pub no_trade : Trade
+no_trade = record { costs = []; model = 0 }
+
+-- The vector of trade j, and its assignment.
+abbrev pub row : List Trade → ℕ → ℕ → ℕ
+row trades j = at (get_or trades j no_trade).costs
+
+abbrev pub model : List Trade → ℕ → ℕ
+model trades j = (get_or trades j no_trade).model
+
 -- The first k places of f are at least those of lb.
 abbrev pub Above : ℕ → List ℕ → (ℕ → ℕ) → Type 0
 Above k lb f = (i : ℕ) → i < k → get_or lb i 0 ≤ f i
@@ -25,29 +38,39 @@ Above k lb f = (i : ℕ) → i < k → get_or lb i 0 ≤ f i
 abbrev pub Below : ℕ → List ℕ → (ℕ → ℕ) → Type 0
 Below k cap f = (i : ℕ) → i < k → f i ≤ get_or cap i 0
 
--- The point whose k numbers begin at a does not weakly dominate f.
-abbrev pub Free : ℕ → List ℕ → ℕ → (ℕ → ℕ) → Type 0
-Free k l a f = ((i : ℕ) → i < k → get_or l (a + i) 0 ≤ f i) → ⊥
+-- f is at most h in each of the first k places: f weakly dominates h.
+abbrev pub Within : ℕ → (ℕ → ℕ) → (ℕ → ℕ) → Type 0
+Within k f h = (i : ℕ) → i < k → f i ≤ h i
 
--- None of the first m points weakly dominates f.
-abbrev pub Fresh : ℕ → List ℕ → ℕ → (ℕ → ℕ) → Type 0
-Fresh k l m f = (q : ℕ) → q < m → Free k l (q * k) f
+-- None of the first m trades weakly dominates f.
+abbrev pub Fresh : ℕ → List Trade → ℕ → (ℕ → ℕ) → Type 0
+Fresh k trades m f = (q : ℕ) → q < m → Within k (row trades q) f → ⊥
 
--- Before the limit if there is one, and weakly dominated by none of the m listed points of l and none of the c gathered points of g.
-abbrev pub Sought : ℕ → List ℕ → ℕ → List ℕ → ℕ → Bool → List ℕ → (ℕ → ℕ) → Type 0
-Sought k l m g c have top f = ((have ≡ true → less k 0 f (at top)) × Fresh k l m f) × Fresh k g c f
+-- f comes before the limit, if there is one.
+abbrev pub Before : ℕ → Option (List ℕ) → (ℕ → ℕ) → Type 0
+Before k limit f = (top : List ℕ) → limit ≡ Some top → less k 0 f (at top)
 
--- What has Q between lb and cap is at most cap' too; or there is none.
-pub record Tight (k : ℕ) (lb cap cap' : List ℕ) (Q : (ℕ → ℕ) → Type 0) (r : Bool) : Type 0 where
-  pub some : r ≡ true → (f : ℕ → ℕ) → Above k lb f → Below k cap f → Q f → Below k cap' f
-  pub none : r ≡ false → (f : ℕ → ℕ) → Above k lb f → Below k cap f → Q f → ⊥
+-- Before the limit, and weakly dominated by no listed trade and by none of the first c gathered ones.
+pub record Sought (k : ℕ) (listed gathered : List Trade) (c : ℕ) (limit : Option (List ℕ)) (f : ℕ → ℕ) : Type 0 where
+  pub before : Before k limit f
+  pub fresh : Fresh k listed (length listed) f
+  pub new : Fresh k gathered c f
+
+-- x meets the rows, and its vector is sought.
+pub record Seeks (problem : Problem) (listed gathered : List Trade) (c : ℕ) (limit : Option (List ℕ)) (x : ℕ → ℕ) : Type 0 where
+  pub meets : Meets problem.rows x
+  pub sought : Sought problem.count listed gathered c limit (vec problem x)
+
+-- What has Q between lb and cap is at most the caps that are answered too; where there are none, there is no such thing.
+abbrev pub Tight : ℕ → List ℕ → List ℕ → ((ℕ → ℕ) → Type 0) → Option (List ℕ) → Type 0
+Tight k lb cap Q (Some cap') = (f : ℕ → ℕ) → Above k lb f → Below k cap f → Q f → Below k cap' f
+Tight k lb cap Q None = (f : ℕ → ℕ) → Above k lb f → Below k cap f → Q f → ⊥
 
 -- Caps for what is wanted below p, or that there is none.
-pub record Capped (n : ℕ) (W : (ℕ → ℕ) → Type 0) (d dear : List ℕ) (k : ℕ) (p : Part) (cap : List ℕ) (r : Bool) : Type 0 where
-  pub some : r ≡ true → (x : ℕ → ℕ) → Completes n (of p) x → W x → Below k cap (vec n d dear x)
-  pub none : r ≡ false → (x : ℕ → ℕ) → Completes n (of p) x → W x → ⊥
+abbrev pub Capped : Problem → ((ℕ → ℕ) → Type 0) → Part → Option (List ℕ) → Type 0
+Capped problem W p (Some cap) = (x : ℕ → ℕ) → Completes problem.rows.n (of p) x → W x → Below problem.count cap (vec problem x)
+Capped problem W p None = (x : ℕ → ℕ) → Completes problem.rows.n (of p) x → W x → ⊥
 
--- lb is below the vector of every completion of p that meets the rows, and no vector is above cap.
-pub record Low (n : ℕ) (start tv off w need d dear : List ℕ) (j : ℕ) (p : Part) (lb cap : List ℕ) : Type 0 where
-  pub low : (i : ℕ) → i < j → (x : ℕ → ℕ) → Completes n (of p) x → Meets start tv off w need x → get_or lb i 0 ≤ cost n d dear (i * n) x
-  pub wide : (i : ℕ) → i < j → get_or cap i 0 ≡ 2 ^ 40
+-- lb is below the vector of every completion of p that meets the rows, in the first j places.
+abbrev pub Low : Problem → ℕ → Part → List ℕ → Type 0
+Low problem j p lb = (i : ℕ) → i < j → (x : ℕ → ℕ) → Completes problem.rows.n (of p) x → Meets problem.rows x → get_or lb i 0 ≤ vec problem x i

@@ -1,174 +1,104 @@
-// Capping (R3 and R4): caps on the objectives from lower bounds, a limit, the listed points and the gathered ones.
+// Capping (R3 and R4): caps on the objectives from lower bounds, a limit, the listed trades and the gathered ones.
 //
-// caps(.., l, m, g, c, have, top, p, lb, cap)   charged lower bounds in lb; in cap, caps for all that is wanted below p; or that nothing is
+// Problem           rows, objectives, ceilings and an order, lent by the caller
+// Trade, Vector     four costs by value, and the assignment that has them
+// caps(.., p)       caps for all that is wanted below p; none where nothing is
 //
-// Points: the k numbers of point q begin at q * k, in l if it is listed and in g if it is gathered. Read specs/Caps.antt; proofs/CapLaws.antt has the argument.
+// Read specs/Caps.antt; proofs/CapLaws.antt has the argument.
 #![tactic(auto)]
 
-ghost use Rattle.std.specs.Prelude.{◌≡◌, ◌⊎◌, true, false, ℕ, ◌+◌, ◌-◌, ◌*◌, ◌<◌, ◌≤◌, length};
-ghost use Rattle.charging.specs.Rows.{Table, Meets, Costs};
-ghost use Rattle.capping.specs.Caps.{vec, less, at, Free, Fresh, Tight, Sought, Capped, Low};
+mod problems;
+mod trades;
 
-use forcing::Cap;
-use narrowing::Part;
+ghost use Rattle.std.specs.Prelude.{◌≤◌, ◌<◌, ℕ, length};
+ghost use Rattle.narrowing.specs.Parts.{Good};
+ghost use Rattle.capping.specs.Caps.{at, Within, Before, Fresh, Tight, Capped, Seeks, Low};
 
-// The lesser of two.
-pub fn min(a: u64, b: u64) -> u64
-    ensures { ((result ≡ a) ⊎ (result ≡ b)) × (result ≤ a) }
+use charging::Part;
+use forcing::Goal;
+pub use problems::Problem;
+pub use trades::{Trade, Vector};
+
+// R3: the caps that the limit gives, if there is one.
+pub fn ahead(k: usize, low: &Vector, limit: Option<Vector>, cap: Vector) -> Option<Vector>
+    requires { k ≤ 4 }
+    ensures { Tight k low.now cap (Before k limit) result }
 {
-    if b < a {
-        return b;
+    let Some(top) = limit else {
+        return Some(cap);
+    };
+    let mut cap = cap;
+    // Kept by index: three vectors are read in step, and one of them is written.
+    for j in 0..k {
+        if top[j] < low[j] {
+            return None;
+        }
+        cap[j] = cap[j].min(top[j]);
+        if low[j] < top[j] {
+            return Some(cap);
+        }
     }
-    a
+    None
 }
 
-// R3: the caps that the limit gives.
-pub fn ahead(k: usize, lb: &[u64], top: &[u64], cap: &mut [u64]) -> bool
-    requires { (k ≤ length lb.now) × (k ≤ length top.now) × (k ≤ length cap.old) }
-    ensures { Tight k lb.now cap.old cap.new (λ (f : ℕ → ℕ). less k 0 f (at top.now)) result }
+// R4: the cap that one trade gives, where `low` leaves it one place to be beaten at.
+pub fn point(k: usize, low: &Vector, costs: &Vector, cap: Vector) -> Option<Vector>
+    requires { k ≤ 4 }
+    ensures { Tight k low.now cap (λ (f : ℕ → ℕ). Within k (at costs.now) f → ⊥) result }
 {
-    let mut j = 0;
-    while j < k {
-        if top[j] < lb[j] {
-            return false;
-        }
-        cap[j] = min(cap[j], top[j]);
-        if lb[j] < top[j] {
-            return true;
-        }
-        j += 1;
-    }
-    false
-}
-
-// R4: the cap that one point gives, where lb leaves it one place to be beaten at.
-pub fn point(k: usize, lb: &[u64], l: &[u64], a: usize, cap: &mut [u64]) -> bool
-    requires { (k ≤ length lb.now) × (a + k ≤ length l.now) × (k ≤ length cap.old) }
-    ensures { Tight k lb.now cap.old cap.new (Free k l.now a) result }
-{
-    let mut u = k;
-    let mut i = 0;
-    while i < k {
-        if lb[i] < l[a + i] {
-            if u < k {
-                return true;
+    let mut only: Option<usize> = None;
+    // Kept by index: the place itself is what is sought.
+    for i in 0..k {
+        if low[i] < costs[i] {
+            if only.is_some() {
+                return Some(cap);
             }
-            u = i;
+            only = Some(i);
         }
-        i += 1;
     }
-    if u < k {
-        cap[u] = min(cap[u], l[a + u] - 1);
-        return true;
-    }
-    false
+    let i = only?;
+    let mut cap = cap;
+    cap[i] = cap[i].min(costs[i] - 1);
+    Some(cap)
 }
 
-// R3, if there is a limit.
-pub fn ahead_if(have: bool, k: usize, lb: &[u64], top: &[u64], cap: &mut [u64]) -> bool
-    requires { (k ≤ length lb.now) × (k ≤ length top.now) × (k ≤ length cap.old) }
-    ensures { Tight k lb.now cap.old cap.new (λ (f : ℕ → ℕ). (have ≡ true → less k 0 f (at top.now))) result }
+// R4, one trade after the other.
+pub fn points(k: usize, low: &Vector, trades: &[Trade], cap: Vector) -> Option<Vector>
+    requires { k ≤ 4 }
+    ensures { Tight k low.now cap (Fresh k trades.now (length trades.now)) result }
 {
-    if have {
-        return ahead(k, lb, top, cap);
+    let mut cap = cap;
+    for trade in trades {
+        cap = point(k, low, &trade.costs, cap)?;
     }
-    true
+    Some(cap)
 }
 
-// R4, for the first m points.
-pub fn points(k: usize, lb: &[u64], l: &[u64], m: usize, cap: &mut [u64]) -> bool
-    requires { (k ≤ length lb.now) × (m * k ≤ length l.now) × (k ≤ length cap.old) }
-    ensures { Tight k lb.now cap.old cap.new (Fresh k l.now m) result }
+// Charged lower bounds.
+pub fn charges(problem: &Problem<'_>, p: Part) -> Vector
+    ensures { Low problem.now problem.now.count p result }
 {
-    let mut q = 0;
-    while q < m {
-        let ok = point(k, lb, l, q * k, cap);
-        if !ok {
-            return false;
-        }
-        q += 1;
+    let mut low = [0; 4];
+    let mut res = [0; Part::MOST];
+    for i in 0..problem.count {
+        low[i] = charging::charge(&problem.rows, problem.costs_of(i), p, &mut res);
     }
-    true
-}
-
-// Charged lower bounds, and caps above every vector.
-pub fn charges(
-    n: usize,
-    start: &[usize],
-    tv: &[usize],
-    off: &[u8],
-    w: &[u64],
-    need: &[u64],
-    d: &[u64],
-    dear: &[u8],
-    k: usize,
-    p: Part,
-    res: &mut [u64],
-    lb: &mut [u64],
-    cap: &mut [u64],
-    hint: &[u64],
-)
-    requires { Table n start.now tv.now off.now w.now need.now × ((i : ℕ) → i < k → Costs n d.now dear.now (i * n)) × (n ≤ length res.old) × (k ≤ length lb.old) × (k ≤ length cap.old) }
-    ensures { Low n start.now tv.now off.now w.now need.now d.now dear.now k p lb.new cap.new }
-{
-    let mut i = 0;
-    while i < k {
-        lb[i] = charging::charge(
-            n,
-            start,
-            tv,
-            off,
-            w,
-            need,
-            d,
-            dear,
-            i * n,
-            p.set,
-            p.one,
-            res,
-            hint,
-        );
-        cap[i] = Cap::NONE;
-        i += 1;
-    }
+    low
 }
 
 // Caps for what is wanted below p.
 pub fn caps(
-    n: usize,
-    start: &[usize],
-    tv: &[usize],
-    off: &[u8],
-    w: &[u64],
-    need: &[u64],
-    d: &[u64],
-    dear: &[u8],
-    k: usize,
-    l: &[u64],
-    m: usize,
-    g: &[u64],
-    c: usize,
-    have: bool,
-    top: &[u64],
+    problem: &Problem<'_>,
+    listed: &[Trade],
+    gathered: &[Trade],
+    limit: Option<Vector>,
     p: Part,
-    res: &mut [u64],
-    lb: &mut [u64],
-    cap: &mut [u64],
-    hint: &[u64],
-) -> bool
-    requires { Table n start.now tv.now off.now w.now need.now × ((i : ℕ) → i < k → Costs n d.now dear.now (i * n)) × (n ≤ length res.old) × (k ≤ length lb.old) × (k ≤ length cap.old) × (m * k ≤ length l.now) × (c * k ≤ length g.now) × (k ≤ length top.now) }
-    ensures { Capped n (λ (x : ℕ → ℕ). Sought k l.now m g.now c have top.now (vec n d.now dear.now x) × Meets start.now tv.now off.now w.now need.now x) d.now dear.now k p cap.new result }
+) -> Option<Vector>
+    ensures { Capped problem.now (Seeks problem.now listed.now gathered.now (length gathered.now) limit) p result }
 {
-    charges(
-        n, start, tv, off, w, need, d, dear, k, p, res, lb, cap, hint,
-    );
-    let ok = ahead_if(have, k, &*lb, top, cap);
-    if !ok {
-        return false;
-    }
-    let fine = points(k, &*lb, l, m, cap);
-    if !fine {
-        return false;
-    }
-    points(k, &*lb, g, c, cap)
+    let k = problem.count;
+    let low = charges(problem, p);
+    let cap = ahead(k, &low, limit, [Goal::NO_CAP; 4])?;
+    let cap = points(k, &low, listed, cap)?;
+    points(k, &low, gathered, cap)
 }

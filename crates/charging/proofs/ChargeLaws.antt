@@ -6,174 +6,144 @@
 use mathlib.Core.Path.{◌≡◌, sym, subst, ◌∙◌}
 use mathlib.Core.Logic.{⊎_elim}
 use mathlib.Core.List.{List}
-use Prim.Native.Nat.{ℕ, ◌+◌, ◌-◌, ◌^◌, ◌≤◌, ◌<◌}
+use Prim.Native.Nat.{ℕ, ◌+◌, ◌-◌, ◌*◌, ◌^◌, ◌≤◌, ◌<◌}
 use native.Mathlib.Nat.{le_refl, not-suc-le-zero, zero-add}
 use native.Mathlib.Omega.{arith}
 use lib.ListN.{length, get_or, set}
 use lib.Seq.{get_or-set_same, get_or-set_other}
 use borrow.Author.Count.{below_more}
-use Rattle.charging.specs.Rows.{span, hit, term, left, Table, Completes, Meets, cost, rest, spare_at, Paid, Charged, Costs, Owed, Step}
-use Rattle.charging.proofs.SumLaws.{span-mono, span-drop, span-add, span-some, eq-or, hit-eq, hit-ne, miss-eq, miss-ne, miss-le, spare-free, spare-paid}
+use Rattle.charging.specs.declared.rows.Term.{Term}
+use Rattle.charging.specs.declared.rows.Cost.{Cost}
+use Rattle.charging.specs.declared.rows.Rows.{Rows}
+use Rattle.charging.specs.declared.parts.Part.{Part}
+use Rattle.charging.specs.Rows.{span, hit, term, variable, side, weight, given, gap, dear, Terms, Completes, cost, rest, spare_at, Paid, Least, Costs, Owed}
+use Rattle.charging.specs.Meets.{count, need, terms_of, left, Meets, Charged, Step}
+use Rattle.charging.proofs.SumLaws.{sum-mono, sum-drop, sum-add, sum-some, one_of, eq-or, hit-eq, hit-ne, hit-le, miss-eq, miss-ne, miss-le, spare-free, spare-paid}
+use Rattle.charging.proofs.TableLaws.{row_terms}
 
-module _ (n : ℕ) (start tv off w need : List ℕ) (t : Table n start tv off w need) where
-  -- where the term of row h is
-  pub in_row : (h k : ℕ) → h < length need → k < get_or start (h + 1) 0 - get_or start h 0 → get_or start h 0 + k < length tv
-  in_row h k l j = omega (arith, t.inside h l, t.rising h l)
-
-  -- what a term gives under a completion is at most what it gives under val
-  term_up : (val : ℕ → ℕ) (x : ℕ → ℕ) → Completes n val x → (k : ℕ) → k < length tv → term tv off w x k ≤ term tv off w val k
+-- what a term gives under a completion is at most what it gives under val
+module _ (n : ℕ) (terms : List Term) (t : Terms n terms) where
+  term_up : (val : ℕ → ℕ) (x : ℕ → ℕ) → Completes n val x → (k : ℕ) → k < length terms → term terms x k ≤ term terms val k
   term_up val x c k l =
       ⊎_elim
-      (λ e. let same : x (get_or tv k 0) ≡ val (get_or tv k 0) = c.agrees (get_or tv k 0) (t.terms.vars k l) (λ z. let s = t.terms.sides k l in omega arith) in
-      omega (arith, miss-eq (x (get_or tv k 0)) (get_or off k 0) (get_or w k 0) (same ∙ e)))
-      (λ e. omega (arith, miss-ne (val (get_or tv k 0)) (get_or off k 0) (get_or w k 0) e, miss-le (x (get_or tv k 0)) (get_or off k 0) (get_or w k 0)))
-      (eq-or (val (get_or tv k 0)) (get_or off k 0))
+      (λ e. let same : x (variable terms k) ≡ val (variable terms k) = c.agrees (variable terms k) (t.vars k l) (λ z. let s = t.sides k l in omega arith) in
+      omega (arith, miss-eq (x (variable terms k)) (side terms k) (weight terms k) (same ∙ e)))
+      (λ e. omega (arith, miss-ne (val (variable terms k)) (side terms k) (weight terms k) e, miss-le (x (variable terms k)) (side terms k) (weight terms k)))
+      (eq-or (val (variable terms k)) (side terms k))
 
+  given-up : (val : ℕ → ℕ) (x : ℕ → ℕ) → Completes n val x → given terms x ≤ given terms val
+  given-up val x c = sum-mono (term terms x) (term terms val) (length terms) (term_up val x c)
+
+  -- without the help of the term j
+  given-less : (val : ℕ → ℕ) (x : ℕ → ℕ) → Completes n val x → (j : ℕ) → j < length terms → val (variable terms j) ≡ 2 → x (variable terms j) ≡ side terms j
+      → given terms x + weight terms j ≤ given terms val
+  given-less val x c j i u e =
+      let now' : term terms val j ≡ weight terms j = miss-ne (val (variable terms j)) (side terms j) (weight terms j) (λ z. let s = t.sides j i in omega arith) in
+      let then' : term terms x j ≡ 0 = miss-eq (x (variable terms j)) (side terms j) (weight terms j) e in
+      sum-drop (term terms x) (term terms val) (length terms) j (weight terms j) (term_up val x c) i (omega arith)
+
+  -- R5, one row: where what needs no charge is too little, some charged variable stands on its dear side
+  charged-terms : (val : ℕ → ℕ) (costs : List Cost) (res res' : List ℕ) (m enough : ℕ) → Costs n costs
+      → span (spare_at terms val costs res) 0 (length terms) < enough
+      → ((v : ℕ) → v < n → get_or res' v 0 ≤ get_or res v 0)
+      → ((k : ℕ) → k < length terms → (dear costs (variable terms k) ≡ side terms k → ⊥)
+      → (get_or res (variable terms k) 0 ≡ 0 → ⊥) → get_or res' (variable terms k) 0 + m ≤ get_or res (variable terms k) 0)
+      → (x : ℕ → ℕ) → Completes n val x → enough ≤ given terms x → rest res' costs x + m ≤ rest res costs x
+  charged-terms val costs res res' m enough cs short down pay x c mt = sum-some (spare_at terms val costs res) (term terms x) (length terms) (omega arith) found
+    where
+      fall : (v : ℕ) → v < length costs → hit (x v) (dear costs v) (get_or res' v 0) ≤ hit (x v) (dear costs v) (get_or res v 0)
+      fall v j =
+          ⊎_elim
+          (λ e. omega (arith, hit-eq (x v) (dear costs v) (get_or res' v 0) e, hit-eq (x v) (dear costs v) (get_or res v 0) e, down v (omega (arith, cs.long))))
+          (λ e. omega (arith, hit-ne (x v) (dear costs v) (get_or res' v 0) e))
+          (eq-or (x v) (dear costs v))
+
+      found : (k : ℕ) → k < length terms → spare_at terms val costs res k < term terms x k → rest res' costs x + m ≤ rest res costs x
+      found k j lt =
+          sum-drop (λ (v : ℕ). hit (x v) (dear costs v) (get_or res' v 0)) (λ (v : ℕ). hit (x v) (dear costs v) (get_or res v 0)) (length costs) u m
+          fall (omega (arith, cs.long)) gap'
+        where
+          u : ℕ
+          u = variable terms k
+
+          inn : u < n
+          inn = t.vars k j
+
+          on : x u ≡ side terms k → ⊥
+          on e = omega (arith, miss-eq (x u) (side terms k) (weight terms k) e)
+
+          can : val u ≡ side terms k → ⊥
+          can e = on (c.agrees u inn (λ z. let s = t.sides k j in omega arith) ∙ e)
+
+          helps : dear costs u ≡ side terms k → ⊥
+          helps e = omega (arith, spare-free (val u) (side terms k) (dear costs u) (get_or res u 0) (weight terms k) can e, miss-le (x u) (side terms k) (weight terms k))
+
+          owes : get_or res u 0 ≡ 0 → ⊥
+          owes e = omega (arith, spare-paid (val u) (side terms k) (dear costs u) (get_or res u 0) (weight terms k) can helps e, miss-le (x u) (side terms k) (weight terms k))
+
+          dearly : x u ≡ dear costs u
+          dearly = omega (arith, c.bits u inn, cs.two u inn, t.sides k j, on, helps)
+
+          gap' : hit (x u) (dear costs u) (get_or res' u 0) + m ≤ hit (x u) (dear costs u) (get_or res u 0)
+          gap' = omega (arith, hit-eq (x u) (dear costs u) (get_or res' u 0) dearly, hit-eq (x u) (dear costs u) (get_or res u 0) dearly, pay k j helps owes)
+
+module _ (rows : Rows) where
   -- R1: the left side of a completion is at most what val can reach
-  pub reach-up : (val : ℕ → ℕ) (x : ℕ → ℕ) → Completes n val x → (h : ℕ) → h < length need → left start tv off w x h ≤ left start tv off w val h
-  reach-up val x c h l = span-mono (term tv off w x) (term tv off w val) (get_or start h 0) (get_or start (h + 1) 0 - get_or start h 0) (λ k j. term_up val x c (get_or start h 0 + k) (in_row h k l j))
+  pub reach-up : (val : ℕ → ℕ) (x : ℕ → ℕ) → Completes rows.n val x → (h : ℕ) → h < count rows → left rows x h ≤ left rows val h
+  reach-up val x c h l = given-up rows.n (terms_of rows h) (row_terms rows h l) val x c
 
-  pub hopeless : (val : ℕ → ℕ) (h : ℕ) → h < length need → left start tv off w val h < get_or need h 0 → (x : ℕ → ℕ) → Completes n val x → Meets start tv off w need x → ⊥
+  pub hopeless : (val : ℕ → ℕ) (h : ℕ) → h < count rows → left rows val h < need rows h → (x : ℕ → ℕ) → Completes rows.n val x → Meets rows x → ⊥
   hopeless val h l r x c m = omega (arith, reach-up val x c h l, m h l)
 
   -- R2: where the row cannot do without the term j, no completion that meets the row has its variable at off
-  pub forced : (val : ℕ → ℕ) (h j : ℕ) → h < length need → j < get_or start (h + 1) 0 - get_or start h 0
-      → val (get_or tv (get_or start h 0 + j) 0) ≡ 2 → left start tv off w val h < get_or need h 0 + get_or w (get_or start h 0 + j) 0
-      → (x : ℕ → ℕ) → Completes n val x → Meets start tv off w need x → x (get_or tv (get_or start h 0 + j) 0) ≡ get_or off (get_or start h 0 + j) 0 → ⊥
-  forced val h j l i u r x c m e =
-      let k = get_or start h 0 + j in
-      let in' = in_row h j l i in
-      let now' : term tv off w val k ≡ get_or w k 0 = miss-ne (val (get_or tv k 0)) (get_or off k 0) (get_or w k 0) (λ z. let s = t.terms.sides k in' in omega arith) in
-      let then' : term tv off w x k ≡ 0 = miss-eq (x (get_or tv k 0)) (get_or off k 0) (get_or w k 0) e in
-      let gap : left start tv off w x h + get_or w k 0 ≤ left start tv off w val h
-      = span-drop (term tv off w x) (term tv off w val) (get_or start h 0) (get_or start (h + 1) 0 - get_or start h 0) j (get_or w k 0)
-      (λ q z. term_up val x c (get_or start h 0 + q) (in_row h q l z)) i (omega arith) in
-      omega (arith, m h l)
+  pub forced : (val : ℕ → ℕ) (h j : ℕ) → h < count rows → j < length (terms_of rows h)
+      → val (variable (terms_of rows h) j) ≡ 2 → left rows val h < need rows h + weight (terms_of rows h) j
+      → (x : ℕ → ℕ) → Completes rows.n val x → Meets rows x → x (variable (terms_of rows h) j) ≡ side (terms_of rows h) j → ⊥
+  forced val h j l i u r x c m e = omega (arith, given-less rows.n (terms_of rows h) (row_terms rows h l) val x c j i u e, m h l)
 
-  -- R5, one row: where what needs no charge is too little, some charged variable stands on its dear side
-  pub charged : (val : ℕ → ℕ) (dear res res' : List ℕ) (o h m : ℕ) → h < length need
-      → span (spare_at tv off w val dear o res) (get_or start h 0) (get_or start (h + 1) 0 - get_or start h 0) < get_or need h 0
-      → ((v : ℕ) → v < n → get_or dear (o + v) 0 < 2)
-      → ((v : ℕ) → v < n → get_or res' v 0 ≤ get_or res v 0)
-      → ((k : ℕ) → k < get_or start (h + 1) 0 - get_or start h 0 → (get_or dear (o + get_or tv (get_or start h 0 + k) 0) 0 ≡ get_or off (get_or start h 0 + k) 0 → ⊥)
-      → (get_or res (get_or tv (get_or start h 0 + k) 0) 0 ≡ 0 → ⊥) → get_or res' (get_or tv (get_or start h 0 + k) 0) 0 + m ≤ get_or res (get_or tv (get_or start h 0 + k) 0) 0)
-      → (x : ℕ → ℕ) → Completes n val x → Meets start tv off w need x → rest n res' dear o x + m ≤ rest n res dear o x
-  charged val dear res res' o h m l short two down pay x c mt =
-      span-some (spare_at tv off w val dear o res) (term tv off w x) (get_or start h 0) (get_or start (h + 1) 0 - get_or start h 0) (omega (arith, mt h l)) found
-    where
-      fall : (v : ℕ) → v < n → hit (x v) (get_or dear (o + v) 0) (get_or res' v 0) ≤ hit (x v) (get_or dear (o + v) 0) (get_or res v 0)
-      fall v j =
-          ⊎_elim
-          (λ e. omega (arith, hit-eq (x v) (get_or dear (o + v) 0) (get_or res' v 0) e, hit-eq (x v) (get_or dear (o + v) 0) (get_or res v 0) e, down v j))
-          (λ e. omega (arith, hit-ne (x v) (get_or dear (o + v) 0) (get_or res' v 0) e))
-          (eq-or (x v) (get_or dear (o + v) 0))
+  pub step-one : (costs : List Cost) (val : ℕ → ℕ) (res res' : List ℕ) (h m : ℕ) → Costs rows.n costs → h < count rows
+      → span (spare_at (terms_of rows h) val costs res) 0 (length (terms_of rows h)) < need rows h
+      → m ≤ 2 ^ 34 → Least (terms_of rows h) costs res (length (terms_of rows h)) m
+      → Paid rows.n (terms_of rows h) costs (length (terms_of rows h)) m res res' → Step rows costs val res res' m
+  step-one costs val res res' h m cs l short lo min p =
+      record {
+        low = lo;
+        falls = λ x c mt. charged-terms rows.n (terms_of rows h) (row_terms rows h l) val costs res res' m (need rows h) cs short p.down
+            (λ k i e f. let a = p.each k i e in let b = min k i e f in omega arith) x c (mt h l);
+      }
 
-      found : (k : ℕ) → k < get_or start (h + 1) 0 - get_or start h 0 → spare_at tv off w val dear o res (get_or start h 0 + k) < term tv off w x (get_or start h 0 + k) → rest n res' dear o x + m ≤ rest n res dear o x
-      found k j lt =
-          span-drop (λ (v : ℕ). hit (x v) (get_or dear (o + v) 0) (get_or res' v 0)) (λ (v : ℕ). hit (x v) (get_or dear (o + v) 0) (get_or res v 0)) 0 n u m
-          (λ v i. rw zero-add (fall v i)) inn (rw zero-add gap)
-        where
-          q : ℕ
-          q = get_or start h 0 + k
-
-          u : ℕ
-          u = get_or tv q 0
-
-          inq : q < length tv
-          inq = in_row h k l j
-
-          inn : u < n
-          inn = t.terms.vars q inq
-
-          on : x u ≡ get_or off q 0 → ⊥
-          on e = omega (arith, miss-eq (x u) (get_or off q 0) (get_or w q 0) e)
-
-          can : val u ≡ get_or off q 0 → ⊥
-          can e = on (c.agrees u inn (λ z. let s = t.terms.sides q inq in omega arith) ∙ e)
-
-          helps : get_or dear (o + u) 0 ≡ get_or off q 0 → ⊥
-          helps e = omega (arith, spare-free (val u) (get_or off q 0) (get_or dear (o + u) 0) (get_or res u 0) (get_or w q 0) can e, miss-le (x u) (get_or off q 0) (get_or w q 0))
-
-          owes : get_or res u 0 ≡ 0 → ⊥
-          owes e = omega (arith, spare-paid (val u) (get_or off q 0) (get_or dear (o + u) 0) (get_or res u 0) (get_or w q 0) can helps e, miss-le (x u) (get_or off q 0) (get_or w q 0))
-
-          dearly : x u ≡ get_or dear (o + u) 0
-          dearly = omega (arith, c.bits u inn, two u inn, t.terms.sides q inq, on, helps)
-
-          gap : hit (x u) (get_or dear (o + u) 0) (get_or res' u 0) + m ≤ hit (x u) (get_or dear (o + u) 0) (get_or res u 0)
-          gap = omega (arith, hit-eq (x u) (get_or dear (o + u) 0) (get_or res' u 0) dearly, hit-eq (x u) (get_or dear (o + u) 0) (get_or res u 0) dearly, pay k j helps owes)
+  pub charge-more : (costs : List Cost) (val : ℕ → ℕ) (b : ℕ) (res res' : List ℕ) (r : ℕ)
+      → Charged rows costs val b res → Step rows costs val res res' r → Charged rows costs val (b + r) res'
+  charge-more costs val b res res' r c s = record { bound = λ x k m. let one = c.bound x k m in let two = s.falls x k m in omega arith }
 
 -- R5, at the start: what is sure, and what may still come
-pub opening : (n : ℕ) (val : ℕ → ℕ) (dear d res : List ℕ) (o : ℕ)
-    → ((v : ℕ) → v < n → get_or dear (o + v) 0 < 2)
-    → ((v : ℕ) → v < n → (val v ≡ 2) → get_or res v 0 ≡ get_or d (o + v) 0)
-    → ((v : ℕ) → v < n → (val v ≡ 2 → ⊥) → get_or res v 0 ≡ 0)
-    → (x : ℕ → ℕ) → Completes n val x → cost n d dear o val + rest n res dear o x ≤ cost n d dear o x
-opening n val dear d res o two open' shut x c = span-add _ _ _ 0 n (λ v l. rw zero-add (one v l))
+opening : (n : ℕ) (val : ℕ → ℕ) (costs : List Cost) (res : List ℕ) → Costs n costs → Owed (length costs) val costs res
+    → (x : ℕ → ℕ) → Completes n val x → cost costs val + rest res costs x ≤ cost costs x
+opening n val costs res cs o x c = sum-add _ _ _ (length costs) one
   where
-    one : (v : ℕ) → v < n → hit (val v) (get_or dear (o + v) 0) (get_or d (o + v) 0) + hit (x v) (get_or dear (o + v) 0) (get_or res v 0) ≤ hit (x v) (get_or dear (o + v) 0) (get_or d (o + v) 0)
+    one : (v : ℕ) → v < length costs → hit (val v) (dear costs v) (gap costs v) + hit (x v) (dear costs v) (get_or res v 0) ≤ hit (x v) (dear costs v) (gap costs v)
     one v l =
+        let i : v < n = omega (arith, cs.long) in
         ⊎_elim
-        (λ e. let zero' : hit (val v) (get_or dear (o + v) 0) (get_or d (o + v) 0) ≡ 0 = hit-ne (val v) (get_or dear (o + v) 0) (get_or d (o + v) 0) (λ z. let s = two v l in omega arith) in
-        let r = open' v l e in rw (zero', r, zero-add) (le_refl (hit (x v) (get_or dear (o + v) 0) (get_or d (o + v) 0))))
-        (λ e. let r = shut v l e in let a = c.agrees v l e in
-        let z : hit (x v) (get_or dear (o + v) 0) 0 ≤ 0 = Rattle.charging.proofs.SumLaws.hit-le (x v) (get_or dear (o + v) 0) 0 in
+        (λ e. let zero' : hit (val v) (dear costs v) (gap costs v) ≡ 0 = hit-ne (val v) (dear costs v) (gap costs v) (λ z. let s = cs.two v i in omega arith) in
+        rw (zero', o.open' v l e, zero-add) (le_refl (hit (x v) (dear costs v) (gap costs v))))
+        (λ e. let r = o.shut v l e in let a = c.agrees v i e in
+        let z : hit (x v) (dear costs v) 0 ≤ 0 = hit-le (x v) (dear costs v) 0 in
         rw (r, a) (omega (arith, rw a at z)))
         (eq-or (val v) 2)
 
-pub paid-none : (n : ℕ) (tv off dear : List ℕ) (o a m : ℕ) (res : List ℕ) → Paid n tv off dear o a 0 m res res
-paid-none n tv off dear o a m res = record { down = λ v l. le_refl (get_or res v 0); each = λ k l. absurd (not-suc-le-zero l) }
+pub charge-none : (rows : Rows) (val : ℕ → ℕ) (costs : List Cost) (b : ℕ) (res : List ℕ)
+    → Costs rows.n costs → Owed (length costs) val costs res → b ≡ cost costs val → Charged rows costs val b res
+charge-none rows val costs b res cs e z = record { bound = λ x k m. let one = opening rows.n val costs res cs e x k in omega arith }
 
-pub paid-more : (n : ℕ) (tv off dear : List ℕ) (o a j m : ℕ) (res now' : List ℕ) (r : ℕ) → get_or tv (a + j) 0 < n → get_or tv (a + j) 0 < length now'
-    → Paid n tv off dear o a j m res now'
-    → r ≤ get_or now' (get_or tv (a + j) 0) 0
-    → ((get_or dear (o + get_or tv (a + j) 0) 0 ≡ get_or off (a + j) 0 → ⊥) → r ≤ get_or now' (get_or tv (a + j) 0) 0 - m)
-    → Paid n tv off dear o a (j + 1) m res (set now' (get_or tv (a + j) 0) r)
-paid-more n tv off dear o a j m res now' r ln lr old low less =
+pub owed_none : (val : ℕ → ℕ) (costs : List Cost) (res : List ℕ) → Owed 0 val costs res
+owed_none val costs res = record { open' = λ v l. absurd (not-suc-le-zero l); shut = λ v l. absurd (not-suc-le-zero l) }
+
+pub owed_more : (j : ℕ) (val : ℕ → ℕ) (costs : List Cost) (res : List ℕ) (r : ℕ) → j < length res → Owed j val costs res
+    → (val j ≡ 2 → r ≡ gap costs j) → ((val j ≡ 2 → ⊥) → r ≡ 0) → Owed (j + 1) val costs (set res j r)
+owed_more j val costs res r l old f g =
     record {
-      down = λ v l. let one = fall v in let two = old.down v l in omega arith;
-      each = below_more (λ (k : ℕ). (get_or dear (o + get_or tv (a + k) 0) 0 ≡ get_or off (a + k) 0 → ⊥) → get_or (set now' u r) (get_or tv (a + k) 0) 0 ≤ get_or res (get_or tv (a + k) 0) 0 - m) j
-          (λ k l p. let one = fall (get_or tv (a + k) 0) in let two = old.each k l p in omega arith)
-          (λ p. let one = less p in let two = old.down u ln in let three : get_or (set now' u r) u 0 ≡ r = get_or-set_same now' u r 0 lr in omega arith);
-    }
-  where
-    u : ℕ
-    u = get_or tv (a + j) 0
-
-    fall : (v : ℕ) → get_or (set now' u r) v 0 ≤ get_or now' v 0
-    fall v = ⊎_elim (λ e. subst (λ (z : ℕ). get_or (set now' u r) z 0 ≤ get_or now' z 0) (sym e) (rw (get_or-set_same now' u r 0 lr) low)) (λ e. rw (get_or-set_other now' u v r 0 e) (le_refl (get_or now' v 0))) (eq-or v u)
-
-pub step-none : (n : ℕ) (start tv off w need : List ℕ) (val : ℕ → ℕ) (dear : List ℕ) (o : ℕ) (res : List ℕ) → Step n start tv off w need val dear o res res 0
-step-none n start tv off w need val dear o res = record { low = omega arith; falls = λ x c m. omega arith }
-
-pub step-one : (n : ℕ) (start tv off w need : List ℕ) → Table n start tv off w need → (val : ℕ → ℕ) (d dear : List ℕ) (o : ℕ) → Costs n d dear o → (res res' : List ℕ) (h m : ℕ) → h < length need
-    → span (spare_at tv off w val dear o res) (get_or start h 0) (get_or start (h + 1) 0 - get_or start h 0) < get_or need h 0
-    → m ≤ 2 ^ 34
-    → ((k : ℕ) → k < get_or start (h + 1) 0 - get_or start h 0 → (get_or dear (o + get_or tv (get_or start h 0 + k) 0) 0 ≡ get_or off (get_or start h 0 + k) 0 → ⊥)
-    → (get_or res (get_or tv (get_or start h 0 + k) 0) 0 ≡ 0 → ⊥) → m ≤ get_or res (get_or tv (get_or start h 0 + k) 0) 0)
-    → Paid n tv off dear o (get_or start h 0) (get_or start (h + 1) 0 - get_or start h 0) m res res'
-    → Step n start tv off w need val dear o res res' m
-step-one n start tv off w need t val d dear o q res res' h m l short lo min p =
-    record { low = lo; falls = charged n start tv off w need t val dear res res' o h m l short q.two p.down (λ k i e f. let a = p.each k i e in let b = min k i e f in omega arith) }
-
-pub charge-more : (n : ℕ) (start tv off w need : List ℕ) (val : ℕ → ℕ) (d dear : List ℕ) (o b : ℕ) (res res' : List ℕ) (r : ℕ)
-    → Charged n start tv off w need val d dear o b res → Step n start tv off w need val dear o res res' r → Charged n start tv off w need val d dear o (b + r) res'
-charge-more n start tv off w need val d dear o b res res' r c s =
-    record { bound = λ x k m. let one = c.bound x k m in let two = s.falls x k m in omega arith }
-
-pub charge-none : (n : ℕ) (start tv off w need : List ℕ) (val : ℕ → ℕ) (d dear : List ℕ) (o b : ℕ) (res : List ℕ)
-    → Costs n d dear o → Owed n val d o res → b ≡ cost n d dear o val → Charged n start tv off w need val d dear o b res
-charge-none n start tv off w need val d dear o b res q e z =
-    record { bound = λ x k m. let one = opening n val dear d res o q.two e.open' e.shut x k in omega arith }
-
-pub owed_none : (val : ℕ → ℕ) (d : List ℕ) (o : ℕ) (res : List ℕ) → Owed 0 val d o res
-owed_none val d o res = record { open' = λ v l. absurd (not-suc-le-zero l); shut = λ v l. absurd (not-suc-le-zero l) }
-
-pub owed_more : (j : ℕ) (val : ℕ → ℕ) (d : List ℕ) (o : ℕ) (res : List ℕ) (r : ℕ) → j < length res → Owed j val d o res
-    → (val j ≡ 2 → r ≡ get_or d (o + j) 0) → ((val j ≡ 2 → ⊥) → r ≡ 0) → Owed (j + 1) val d o (set res j r)
-owed_more j val d o res r l old f g =
-    record {
-      open' = below_more (λ (v : ℕ). val v ≡ 2 → get_or (set res j r) v 0 ≡ get_or d (o + v) 0) j (λ v i e. other v i ∙ old.open' v i e) (λ e. same ∙ f e);
+      open' = below_more (λ (v : ℕ). val v ≡ 2 → get_or (set res j r) v 0 ≡ gap costs v) j (λ v i e. other v i ∙ old.open' v i e) (λ e. same ∙ f e);
       shut = below_more (λ (v : ℕ). (val v ≡ 2 → ⊥) → get_or (set res j r) v 0 ≡ 0) j (λ v i e. other v i ∙ old.shut v i e) (λ e. same ∙ g e);
     }
   where
@@ -182,3 +152,9 @@ owed_more j val d o res r l old f g =
 
     other : (v : ℕ) → v < j → get_or (set res j r) v 0 ≡ get_or res v 0
     other v i = get_or-set_other res j v r 0 (λ e. omega arith)
+
+-- what is left at a variable on its dear side is part of the rest
+pub rest-one : (res : List ℕ) (costs : List Cost) (x : ℕ → ℕ) (v : ℕ) → v < length costs → x v ≡ dear costs v → get_or res v 0 ≤ rest res costs x
+rest-one res costs x v l e =
+    let k = one_of (λ (u : ℕ). hit (x u) (dear costs u) (get_or res u 0)) (length costs) v l in
+    omega (arith, hit-eq (x v) (dear costs v) (get_or res v 0) e)

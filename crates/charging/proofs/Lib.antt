@@ -1,4 +1,5 @@
--- For every crate of the search: sums, bits, and R1, R2 and R5 as laws.
+-- For every crate of the search: sums, bits, parts of tables, and R1, R2 and R5 as laws.
 pub mod SumLaws
 pub mod BitLaws
+pub mod TableLaws
 pub mod ChargeLaws

@@ -1,6 +1,9 @@
--- Normal tables: rows as sums of unsigned terms that need at least a number, objectives as sums of unsigned costs; and what charging promises.
+-- Normal tables: rows as sums of unsigned terms that need at least a number, objectives as sums of unsigned costs; and what charging one row promises.
 -- A complete assignment is x : ℕ → ℕ, each x v below 2. A partial one is y : ℕ → ℕ, where y v is 2 if the variable v is unset.
-use Rattle.std.specs.Prelude.{◌≡◌, Bool, true, false, List, ℕ, zero, suc, ◌+◌, ◌-◌, ◌*◌, ◌/◌, ◌%◌, ◌^◌, ◌≤◌, ◌<◌, eqb, length, get_or}
+use Rattle.std.specs.Prelude.{◌≡◌, Bool, true, false, List, ℕ, zero, suc, ◌+◌, ◌-◌, ◌*◌, ◌/◌, ◌%◌, ◌^◌, ◌≤◌, ◌<◌, eqb, length, get_or, slice_range}
+use Rattle.charging.specs.declared.rows.Term.{Term}
+use Rattle.charging.specs.declared.rows.Cost.{Cost}
+use Rattle.charging.specs.declared.parts.Part.{Part}
 
 -- a where the test is true, else b.
 abbrev pub pick : Bool → ℕ → ℕ → ℕ
@@ -20,31 +23,53 @@ unfoldable pub span : (ℕ → ℕ) → ℕ → ℕ → ℕ
 span f a zero = 0
 span f a (suc n) = span f a n + f (a + n)
 
--- The terms: term k gives w[k] unless its variable tv[k] stands at off[k].
-pub record Terms (n : ℕ) (tv off w : List ℕ) : Type 0 where
-  pub offs : length off ≡ length tv
-  pub ws : length w ≡ length tv
-  pub vars : (k : ℕ) → k < length tv → get_or tv k 0 < n
-  pub sides : (k : ℕ) → k < length tv → get_or off k 0 < 2
-  pub small : (k : ℕ) → get_or w k 0 ≤ 2 ^ 34
+-- The term that gives nothing, and the cost of nothing: what stands past the end of a list.
+abbrev pub no_term : Term
+no_term = record { weight = 0; variable = 0; off = 0 }
+
+abbrev pub no_cost : Cost
+no_cost = record { gap = 0; dear = 0 }
+
+-- Term k: its variable, the side where it gives nothing, and what it gives on the other.
+abbrev pub variable : List Term → ℕ → ℕ
+variable terms k = (get_or terms k no_term).variable
+
+abbrev pub side : List Term → ℕ → ℕ
+side terms k = (get_or terms k no_term).off
+
+abbrev pub weight : List Term → ℕ → ℕ
+weight terms k = (get_or terms k no_term).weight
+
+-- What the variable v costs, and on which side.
+abbrev pub gap : List Cost → ℕ → ℕ
+gap costs v = (get_or costs v no_cost).gap
+
+abbrev pub dear : List Cost → ℕ → ℕ
+dear costs v = (get_or costs v no_cost).dear
+
+-- Terms of n variables.
+pub record Terms (n : ℕ) (terms : List Term) : Type 0 where
+  pub vars : (k : ℕ) → k < length terms → variable terms k < n
+  pub sides : (k : ℕ) → k < length terms → side terms k < 2
+  pub small : (k : ℕ) → k < length terms → weight terms k ≤ 2 ^ 34
   pub few : n ≤ 64
-  pub short : length tv ≤ 2 ^ 24
+  pub short : length terms ≤ 2 ^ 24
 
 -- The half rows: row h has the terms from start[h] to start[h + 1].
-pub record Table (n : ℕ) (start tv off w need : List ℕ) : Type 0 where
-  pub terms : Terms n tv off w
+pub record Table (n : ℕ) (start : List ℕ) (terms : List Term) (need : List ℕ) : Type 0 where
+  pub every : Terms n terms
   pub starts : length start ≡ length need + 1
   pub rising : (h : ℕ) → h < length need → get_or start h 0 ≤ get_or start (h + 1) 0
-  pub inside : (h : ℕ) → h < length need → get_or start (h + 1) 0 ≤ length tv
+  pub inside : (h : ℕ) → h < length need → get_or start (h + 1) 0 ≤ length terms
   pub rows : length need ≤ 2 ^ 16
 
 -- What term k gives under y, an assignment or a partial one.
-abbrev pub term : List ℕ → List ℕ → List ℕ → (ℕ → ℕ) → ℕ → ℕ
-term tv off w y k = miss (y (get_or tv k 0)) (get_or off k 0) (get_or w k 0)
+abbrev pub term : List Term → (ℕ → ℕ) → ℕ → ℕ
+term terms y k = miss (y (variable terms k)) (side terms k) (weight terms k)
 
--- The left side of row h.
-abbrev pub left : List ℕ → List ℕ → List ℕ → List ℕ → (ℕ → ℕ) → ℕ → ℕ
-left start tv off w y h = span (term tv off w y) (get_or start h 0) (get_or start (h + 1) 0 - get_or start h 0)
+-- What the terms of a row give.
+abbrev pub given : List Term → (ℕ → ℕ) → ℕ
+given terms y = span (term terms y) 0 (length terms)
 
 -- Bit v of a.
 unfoldable pub bit : ℕ → ℕ → ℕ
@@ -55,59 +80,56 @@ bit a (suc v) = bit (a / 2) v
 unfoldable pub seen : ℕ → ℕ → ℕ → ℕ
 seen set one v = pick (eqb (bit set v) 0) 2 (bit one v)
 
+-- How a part's variables stand.
+abbrev pub of : Part → ℕ → ℕ
+of p = seen p.set p.one
+
 -- x is a complete assignment that agrees with val where val is set.
 pub record Completes (n : ℕ) (val : ℕ → ℕ) (x : ℕ → ℕ) : Type 0 where
   pub bits : (v : ℕ) → v < n → x v < 2
   pub agrees : (v : ℕ) → v < n → (val v ≡ 2 → ⊥) → x v ≡ val v
 
--- x meets every row.
-abbrev pub Meets : List ℕ → List ℕ → List ℕ → List ℕ → List ℕ → (ℕ → ℕ) → Type 0
-Meets start tv off w need x = (h : ℕ) → h < length need → get_or need h 0 ≤ left start tv off w x h
-
--- The objective whose numbers begin at o: the sum of d over the variables on their dear side.
-abbrev pub cost : ℕ → List ℕ → List ℕ → ℕ → (ℕ → ℕ) → ℕ
-cost n d dear o x = span (λ (v : ℕ). hit (x v) (get_or dear (o + v) 0) (get_or d (o + v) 0)) 0 n
+-- An objective: the sum of the gaps of the variables on their dear side.
+abbrev pub cost : List Cost → (ℕ → ℕ) → ℕ
+cost costs x = span (λ (v : ℕ). hit (x v) (dear costs v) (gap costs v)) 0 (length costs)
 
 -- What is left to charge: the sum of res over the variables on their dear side.
-abbrev pub rest : ℕ → List ℕ → List ℕ → ℕ → (ℕ → ℕ) → ℕ
-rest n res dear o x = span (λ (v : ℕ). hit (x v) (get_or dear (o + v) 0) (get_or res v 0)) 0 n
+abbrev pub rest : List ℕ → List Cost → (ℕ → ℕ) → ℕ
+rest res costs x = span (λ (v : ℕ). hit (x v) (dear costs v) (get_or res v 0)) 0 (length costs)
 
 -- A term that needs no charge and can help: what it can give.
 unfoldable pub spare : ℕ → ℕ → ℕ → ℕ → ℕ → ℕ
 spare y off dear r w = pick (eqb y off) 0 (pick (eqb dear off) w (pick (eqb r 0) w 0))
 
 -- What term k can give without a charge.
-abbrev pub spare_at : List ℕ → List ℕ → List ℕ → (ℕ → ℕ) → List ℕ → ℕ → List ℕ → ℕ → ℕ
-spare_at tv off w val dear o res k = spare (val (get_or tv k 0)) (get_or off k 0) (get_or dear (o + get_or tv k 0) 0) (get_or res (get_or tv k 0) 0) (get_or w k 0)
+abbrev pub spare_at : List Term → (ℕ → ℕ) → List Cost → List ℕ → ℕ → ℕ
+spare_at terms val costs res k = spare (val (variable terms k)) (side terms k) (dear costs (variable terms k)) (get_or res (variable terms k) 0) (weight terms k)
 
--- What paying m on row h does to what is left to charge, over its first j terms.
-pub record Paid (n : ℕ) (tv off dear : List ℕ) (o a j m : ℕ) (res res' : List ℕ) : Type 0 where
+-- What paying m on a row does to what is left to charge, over its first j terms.
+pub record Paid (n : ℕ) (terms : List Term) (costs : List Cost) (j m : ℕ) (res res' : List ℕ) : Type 0 where
   pub down : (v : ℕ) → v < n → get_or res' v 0 ≤ get_or res v 0
-  pub each : (k : ℕ) → k < j → (get_or dear (o + get_or tv (a + k) 0) 0 ≡ get_or off (a + k) 0 → ⊥) → get_or res' (get_or tv (a + k) 0) 0 ≤ get_or res (get_or tv (a + k) 0) 0 - m
+  pub each : (k : ℕ) → k < j → (dear costs (variable terms k) ≡ side terms k → ⊥) → get_or res' (variable terms k) 0 ≤ get_or res (variable terms k) 0 - m
 
--- The number b, with what is left to charge, bounds the cost of every completion that meets the rows.
-pub record Charged (n : ℕ) (start tv off w need : List ℕ) (val : ℕ → ℕ) (d dear : List ℕ) (o b : ℕ) (res : List ℕ) : Type 0 where
-  pub bound : (x : ℕ → ℕ) → Completes n val x → Meets start tv off w need x → b + rest n res dear o x ≤ cost n d dear o x
+-- At most what is left to charge at each of the first j terms that can be charged.
+abbrev pub Least : List Term → List Cost → List ℕ → ℕ → ℕ → Type 0
+Least terms costs res j m = (k : ℕ) → k < j → (dear costs (variable terms k) ≡ side terms k → ⊥) → (get_or res (variable terms k) 0 ≡ 0 → ⊥) → m ≤ get_or res (variable terms k) 0
 
--- The objective whose n numbers begin at o.
-pub record Costs (n : ℕ) (d dear : List ℕ) (o : ℕ) : Type 0 where
-  pub long : o + n ≤ length d
-  pub wide : o + n ≤ length dear
-  pub small : (i : ℕ) → get_or d i 0 ≤ 2 ^ 34
-  pub two : (v : ℕ) → v < n → get_or dear (o + v) 0 < 2
+-- An objective's costs, one for each of n variables.
+pub record Costs (n : ℕ) (costs : List Cost) : Type 0 where
+  pub long : length costs ≡ n
+  pub small : (v : ℕ) → v < n → gap costs v ≤ 2 ^ 34
+  pub two : (v : ℕ) → v < n → dear costs v < 2
+
+-- The costs of objective i, where objectives of n variables stand one after the other.
+abbrev pub costs_of : ℕ → List Cost → ℕ → List Cost
+costs_of n costs i = slice_range costs (i * n) (i * n + n)
+
+-- Objectives of n variables, k of them.
+pub record Objectives (n k : ℕ) (costs : List Cost) : Type 0 where
+  pub long : (i : ℕ) → i < k → i * n + n ≤ length costs
+  pub each : (i : ℕ) → i < k → Costs n (costs_of n costs i)
 
 -- All of an unset variable's cost is left to charge, and nothing of a set one's: the first j variables.
-pub record Owed (j : ℕ) (val : ℕ → ℕ) (d : List ℕ) (o : ℕ) (res : List ℕ) : Type 0 where
-  pub open' : (v : ℕ) → v < j → val v ≡ 2 → get_or res v 0 ≡ get_or d (o + v) 0
+pub record Owed (j : ℕ) (val : ℕ → ℕ) (costs : List Cost) (res : List ℕ) : Type 0 where
+  pub open' : (v : ℕ) → v < j → val v ≡ 2 → get_or res v 0 ≡ gap costs v
   pub shut : (v : ℕ) → v < j → (val v ≡ 2 → ⊥) → get_or res v 0 ≡ 0
-
--- r is charged, and what is left to charge falls by as much at least, for every completion that meets the rows.
-pub record Step (n : ℕ) (start tv off w need : List ℕ) (val : ℕ → ℕ) (dear : List ℕ) (o : ℕ) (res res' : List ℕ) (r : ℕ) : Type 0 where
-  pub low : r ≤ 2 ^ 34
-  pub falls : (x : ℕ → ℕ) → Completes n val x → Meets start tv off w need x → rest n res' dear o x + r ≤ rest n res dear o x
-
--- What meets the rows costs at most its cap by each of e ceilings, whose numbers stand as those of objectives do (rule R7).
-pub record Ceiled (n : ℕ) (start tv off w need : List ℕ) (e : ℕ) (d dear caps : List ℕ) : Type 0 where
-  pub costs : (i : ℕ) → i < e → Costs n d dear (i * n)
-  pub room : e ≤ length caps
-  pub bound : (i : ℕ) → i < e → (x : ℕ → ℕ) → ((v : ℕ) → v < n → x v < 2) → Meets start tv off w need x → cost n d dear (i * n) x ≤ get_or caps i 0

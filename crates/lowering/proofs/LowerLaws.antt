@@ -1,39 +1,29 @@
 -- Settling the variables from the highest down. Where the known witness has v off, its high bits are least with v off too. Where it has v on,
 -- a wanted one with v off under the same higher bits takes its place; and where there is none, v on is the least that these higher bits allow.
 use mathlib.Core.Path.{◌≡◌, refl, ap, sym, ◌∙◌}
-use mathlib.Core.Logic.{◌⊎◌, inl, inr, ⊎_elim}
-use mathlib.Core.Bool.{Bool, true, false}
-use lib.Dec.{ltb}
-use borrow.Author.Tests.{ltb-true, ltb-false}
-use mathlib.Core.List.{List}
+use mathlib.Core.Logic.{⊎_elim}
 use Prim.Native.Nat.{ℕ, ◌+◌, ◌-◌, ◌*◌, ◌/◌, ◌^◌, ◌≤◌, ◌<◌}
 use native.Mathlib.Nat.{div-eq_of_lt, div-one}
 use native.Mathlib.Omega.{arith}
-use Rattle.charging.specs.Rows.{bit, Table, Completes}
-use Rattle.charging.proofs.SumLaws.{eq-or}
+use Rattle.charging.specs.declared.parts.Part.{Part}
+use Rattle.charging.specs.Rows.{bit, of, Completes}
+use Rattle.charging.proofs.SumLaws.{eq-or, lt-or}
 use Rattle.charging.proofs.BitLaws.{bit-two}
 use Rattle.charging.proofs.ChargeLaws.{reach-up}
-use Rattle.narrowing.specs.declared.Part.{Part}
-use Rattle.narrowing.specs.Parts.{of, Good, Put}
-use Rattle.forcing.specs.Goals.{Objectives, Wanted}
+use Rattle.narrowing.specs.Parts.{Good, Put}
+use Rattle.forcing.specs.declared.goals.Goal.{Goal}
+use Rattle.forcing.specs.Goals.{objective, Wanted}
 use Rattle.forcing.proofs.ForceLaws.{cost-up}
 use Rattle.lowering.specs.Smallest.{Smallest, Lowered}
 use Rattle.lowering.proofs.NumberLaws.{number_step, number-bits, number_same}
 
-lt-or : (x y : ℕ) → (x < y) ⊎ (y ≤ x)
-lt-or x y = split (ltb x y) refl
-  where
-    split : (b : Bool) → ltb x y ≡ b → (x < y) ⊎ (y ≤ x)
-    split true e = inl (ltb-true x y e)
-    split false e = inr (ltb-false x y e)
 
 -- what a wanted completion says of the variables that y sets
-pub wanted-down : (n : ℕ) (start tv off w need d dear : List ℕ) (k : ℕ) (caps : List ℕ) → Table n start tv off w need → Objectives n k d dear caps
-    → (y x : ℕ → ℕ) → Completes n y x → Wanted n start tv off w need d dear k caps x → Wanted n start tv off w need d dear k caps y
-wanted-down n start tv off w need d dear k caps t o y x c u =
+pub wanted-down : (goal : Goal) (y x : ℕ → ℕ) → Completes goal.rows.n y x → Wanted goal x → Wanted goal y
+wanted-down goal y x c u =
     record {
-      meets = λ h l. omega (arith, reach-up n start tv off w need t y x c h l, u.meets h l);
-      under = λ i l. omega (arith, cost-up n y d dear (i * n) (o.each i l) x c, u.under i l);
+      meets = λ h l. omega (arith, reach-up goal.rows y x c h l, u.meets h l);
+      under = λ i l. omega (arith, cost-up goal.rows.n y (objective goal i) (goal.priced.each i l) x c, u.under i l);
     }
 
 module _ (n : ℕ) (W : (ℕ → ℕ) → Type 0) where

@@ -1,8 +1,8 @@
 -- Document 01, 'The front': the witness is the smallest number of an assignment with that vector. Bit v of the number is the variable v.
 use Rattle.std.specs.Prelude.{◌≡◌, ℕ, ◌/◌, ◌^◌, ◌≤◌, ◌<◌}
-use Rattle.charging.specs.Rows.{bit}
-use Rattle.narrowing.specs.declared.Part.{Part}
-use Rattle.narrowing.specs.Parts.{of, Good}
+use Rattle.charging.specs.declared.parts.Part.{Part}
+use Rattle.charging.specs.Rows.{bit, of}
+use Rattle.narrowing.specs.Parts.{Good}
 
 -- The assignment numbered a is wanted, and of the wanted ones of n variables it has the smallest number.
 pub record Smallest (n : ℕ) (W : (ℕ → ℕ) → Type 0) (a : ℕ) : Type 0 where

@@ -5,11 +5,11 @@ use Prim.Native.Nat.{ℕ, suc, ◌+◌, ◌-◌, ◌*◌, ◌%◌, ◌^◌, ◌�
 use native.Mathlib.Nat.{le_refl, zero-add, one-mul, pow-succ', two-mul, mod-eq_of_lt}
 use lib.Pow.{pow_mono, pow_pos}
 use native.Mathlib.Omega.{arith}
-use Rattle.charging.specs.Rows.{hit, bit, seen}
-use Rattle.charging.proofs.SumLaws.{span-le, hit-le, span-drop, hit-eq, hit-ne, eq-or}
+use Rattle.charging.specs.declared.parts.Part.{Part}
+use Rattle.charging.specs.Rows.{hit, bit, seen, of}
+use Rattle.charging.proofs.SumLaws.{span-le, hit-le, sum-drop, hit-eq, hit-ne, eq-or}
 use Rattle.charging.proofs.BitLaws.{bit-two, set_same, set_other, set-fits, seen-unset, seen-set}
-use Rattle.narrowing.specs.declared.Part.{Part}
-use Rattle.narrowing.specs.Parts.{unset, of, Good, Put}
+use Rattle.narrowing.specs.Parts.{unset, Good, Put}
 
 -- an unset variable's bit
 pub unset-bit : (s o v : ℕ) → seen s o v ≡ 2 → bit s v ≡ 0
@@ -18,8 +18,8 @@ unset-bit s o v e = ⊎_elim (λ z. z) (λ z. absurd (omega (arith, seen-set s o
 -- one variable fewer is unset
 pub unset-less : (n s v : ℕ) → v < n → bit s v ≡ 0 → unset n (s + 2 ^ v) + 1 ≤ unset n s
 unset-less n s v l e =
-    span-drop (λ (u : ℕ). hit (bit (s + 2 ^ v) u) 0 1) (λ (u : ℕ). hit (bit s u) 0 1) 0 n v 1 (λ u i. rw zero-add (each u))
-    l (rw zero-add (omega (arith, hit-eq (bit s v) 0 1 e, hit-ne (bit (s + 2 ^ v) v) 0 1 (λ z. omega (arith, set_same s v e)))))
+    sum-drop (λ (u : ℕ). hit (bit (s + 2 ^ v) u) 0 1) (λ (u : ℕ). hit (bit s u) 0 1) n v 1 (λ u i. each u)
+    l (omega (arith, hit-eq (bit s v) 0 1 e, hit-ne (bit (s + 2 ^ v) v) 0 1 (λ z. omega (arith, set_same s v e))))
   where
     each : (u : ℕ) → hit (bit (s + 2 ^ v) u) 0 1 ≤ hit (bit s u) 0 1
     each u =
@@ -107,6 +107,6 @@ pub blank-good : (n : ℕ) (p : Part) → p.set ≡ 0 → p.one ≡ 0 → p.left
 blank-good n p es eo el =
     record {
       sub = λ v e. rw eo (bit-zero v);
-      count = rw (es, el) (let u = span-le (λ (v : ℕ). hit (bit 0 v) 0 1) 0 n 1 (λ v. hit-le (bit 0 v) 0 1) in omega arith);
+      count = rw (es, el) (let u = span-le (λ (v : ℕ). hit (bit 0 v) 0 1) n 1 (λ v _. hit-le (bit 0 v) 0 1) in omega arith);
       fits = rw eo (pow_pos n);
     }

@@ -1,15 +1,11 @@
 -- Partial assignments by value, and what it is to narrow one without losing a completion that is wanted.
-use Rattle.std.specs.Prelude.{◌≡◌, ◌⊎◌, Bool, false, ℕ, ◌+◌, ◌≤◌, ◌<◌, ◌^◌}
-use Rattle.charging.specs.Rows.{hit, span, bit, seen, Completes}
-use Rattle.narrowing.specs.declared.Part.{Part}
+use Rattle.std.specs.Prelude.{◌≡◌, ◌⊎◌, Option, Some, None, ℕ, ◌+◌, ◌≤◌, ◌<◌, ◌^◌}
+use Rattle.charging.specs.declared.parts.Part.{Part}
+use Rattle.charging.specs.Rows.{hit, span, bit, of, Completes}
 
 -- How many of the first n variables are unset.
 abbrev pub unset : ℕ → ℕ → ℕ
 unset n set = span (λ (v : ℕ). hit (bit set v) 0 1) 0 n
-
--- How a part's variables stand.
-abbrev pub of : Part → ℕ → ℕ
-of p = seen p.set p.one
 
 -- A variable at 1 is set, `left` is at least the number of the unset, and there is no bit from n up.
 pub record Good (n : ℕ) (p : Part) : Type 0 where
@@ -35,10 +31,14 @@ pub record Leads (n : ℕ) (W : (ℕ → ℕ) → Type 0) (p q : Part) : Type 0 
   pub narrows : Narrows n W (of p) (of q)
   pub fewer : q.left ≤ p.left
 
--- Nothing wanted is lost from p to q; and where the answer is no, p has no wanted completion.
-pub record Cuts (n : ℕ) (W : (ℕ → ℕ) → Type 0) (p : Part) (ok : Bool) (q : Part) : Type 0 where
-  pub leads : Leads n W p q
-  pub none : ok ≡ false → (x : ℕ → ℕ) → Completes n (of p) x → W x → ⊥
+-- No completion of p is wanted.
+abbrev pub Hopeless : ℕ → ((ℕ → ℕ) → Type 0) → Part → Type 0
+Hopeless n W p = (x : ℕ → ℕ) → Completes n (of p) x → W x → ⊥
+
+-- Nothing wanted is lost from p to the part that is answered; where there is none, p has no wanted completion.
+abbrev pub Cuts : ℕ → ((ℕ → ℕ) → Type 0) → Part → Option Part → Type 0
+Cuts n W p (Some q) = Leads n W p q
+Cuts n W p None = Hopeless n W p
 
 -- p as it is, or its unset variable v set to b because `why`.
 abbrev pub Maybe : ℕ → Part → ℕ → ℕ → Type 0 → Part → Type 0

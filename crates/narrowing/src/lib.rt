@@ -1,29 +1,17 @@
-// Narrowing (R1 and R2): a partial assignment by value, and what the rows force in it.
+// Narrowing (R1 and R2): what the rows force in a partial assignment.
 //
 // blank(n), put(n, p, v, b)   the part that sets nothing; p with v at b
-// pass(.., p)                 sets each variable without whose help a row cannot be met; or finds that p has no completion that meets the rows
+// pass(rows, p)               sets each variable without whose help a row cannot be met; none where p has no completion that meets the rows
 //
-// The tables are those of the crate charging. Read specs/Parts.antt; proofs/PartLaws.antt has the argument.
+// Rows and parts are those of the crate charging. Read specs/Parts.antt; proofs/PartLaws.antt has the argument.
 #![tactic(auto)]
 
-ghost use Rattle.std.specs.Prelude.{◌≡◌, true, false, ◌+◌, ◌-◌, ◌<◌, ◌≤◌, ℕ, length, get_or};
-ghost use Rattle.charging.specs.Rows.{left, Terms, Table, Meets};
-ghost use Rattle.narrowing.specs.Parts.{of, Good, Put, Cuts, Maybe};
+ghost use Rattle.std.specs.Prelude.{◌≡◌, ◌-◌, ◌<◌, ◌≤◌, ℕ};
+ghost use Rattle.charging.specs.Rows.{of};
+ghost use Rattle.charging.specs.Meets.{count, Meets};
+ghost use Rattle.narrowing.specs.Parts.{Good, Put, Cuts, Maybe};
 
-// A partial assignment: the variables that are set, those at 1, and how many are unset.
-#[derive(Clone, Copy, Drop)]
-pub struct Part {
-    pub set: u64,
-    pub one: u64,
-    pub left: u64,
-}
-
-// A partial assignment, and whether it may have a completion that is wanted.
-#[derive(Drop)]
-pub struct Cut {
-    pub ok: bool,
-    pub part: Part,
-}
+use charging::{Part, Rows, Term};
 
 // The part that sets no variable.
 pub fn blank(n: usize) -> Part
@@ -49,117 +37,65 @@ pub fn put(n: usize, p: Part, v: usize, b: u8) -> Part
         return Part {
             set: p.set + s,
             one: p.one,
-            left: left,
+            left,
         };
     }
     Part {
         set: p.set + s,
         one: p.one + s,
-        left: left,
+        left,
     }
 }
 
-// Sets the variable of term k to the side that helps, where the row cannot do without it.
-pub fn push(n: usize, tv: &[usize], off: &[u8], w: &[u64], slack: u64, k: usize, p: Part) -> Part
-    requires { Good n p × Terms n tv.now off.now w.now × (k < length tv.now) }
-    ensures { Maybe n p (get_or tv.now k 0) (1 - get_or off.now k 0) (slack < get_or w.now k 0) result }
+// Sets the variable of the term to the side that helps, where the row cannot do without it.
+pub fn push(n: usize, term: Term, slack: u64, p: Part) -> Part
+    requires { Good n p × (term.variable < n) × (term.off < 2) × (n ≤ 64) }
+    ensures { Maybe n p term.variable (1 - term.off) (slack < term.weight) result }
 {
-    if w[k] <= slack {
+    if term.weight <= slack {
         return p;
     }
-    let v = tv[k];
-    let y = charging::look(p.set, p.one, v);
+    let v = term.variable as usize;
+    let y = p.look(v);
     if y == 2 {
-        return put(n, p, v, 1 - off[k]);
+        return put(n, p, v, 1 - term.off);
     }
     p
 }
 
 // What row h forces.
-pub fn row(
-    n: usize,
-    start: &[usize],
-    tv: &[usize],
-    off: &[u8],
-    w: &[u64],
-    need: &[u64],
-    h: usize,
-    p: Part,
-) -> Cut
-    requires { Table n start.now tv.now off.now w.now need.now × Good n p × (h < length need.now) }
-    ensures { Cuts n (Meets start.now tv.now off.now w.now need.now) p result.ok result.part }
+pub fn row(rows: &Rows<'_>, h: usize, p: Part) -> Option<Part>
+    requires { Good rows.now.n p × (h < count rows.now) }
+    ensures { Cuts rows.now.n (Meets rows.now) p result }
 {
-    let a = start[h];
-    let many = start[h + 1] - a;
-    let t = need[h];
-    let top = charging::reach(n, tv, off, w, p.set, p.one, a, many);
-    if top < t {
-        return Cut { ok: false, part: p };
-    }
-    let slack = top - t;
+    let terms = rows.terms_of(h);
+    let slack = charging::reach(terms, p).checked_sub(rows.needs[h])?;
     let mut q = p;
-    let mut j = 0;
-    while j < many {
-        q = push(n, tv, off, w, slack, a + j, q);
-        j += 1;
+    for term in terms {
+        q = push(rows.n, *term, slack, q);
     }
-    Cut { ok: true, part: q }
+    Some(q)
 }
 
 // What the i-th row forces, unless the hint says that it forces nothing.
-pub fn visit(
-    n: usize,
-    start: &[usize],
-    tv: &[usize],
-    off: &[u8],
-    w: &[u64],
-    need: &[u64],
-    i: usize,
-    p: Part,
-    hint: &[u64],
-) -> Cut
-    requires { Table n start.now tv.now off.now w.now need.now × Good n p × (i < length need.now) }
-    ensures { Cuts n (Meets start.now tv.now off.now w.now need.now) p result.ok result.part }
+pub fn visit(rows: &Rows<'_>, i: usize, p: Part) -> Option<Part>
+    requires { Good rows.now.n p × (i < count rows.now) }
+    ensures { Cuts rows.now.n (Meets rows.now) p result }
 {
-    if charging::idle(hint, i, p.set, p.one) {
-        return Cut { ok: true, part: p };
+    if rows.idle(i, p) {
+        return Some(p);
     }
-    row(
-        n,
-        start,
-        tv,
-        off,
-        w,
-        need,
-        charging::turn(hint, i, need.len()),
-        p,
-    )
+    row(rows, rows.turn(i), p)
 }
 
 // What the rows force, one after the other.
-pub fn pass(
-    n: usize,
-    start: &[usize],
-    tv: &[usize],
-    off: &[u8],
-    w: &[u64],
-    need: &[u64],
-    p: Part,
-    hint: &[u64],
-) -> Cut
-    requires { Table n start.now tv.now off.now w.now need.now × Good n p }
-    ensures { Cuts n (Meets start.now tv.now off.now w.now need.now) p result.ok result.part }
+pub fn pass(rows: &Rows<'_>, p: Part) -> Option<Part>
+    requires { Good rows.now.n p }
+    ensures { Cuts rows.now.n (Meets rows.now) p result }
 {
     let mut q = p;
-    let mut i = 0;
-    while i < need.len() {
-        let c = visit(n, start, tv, off, w, need, i, q, hint);
-        let ok = c.ok;
-        if !ok {
-            return c;
-        }
-        q = c.part;
-        i += 1;
+    for i in 0..rows.needs.len() {
+        q = visit(rows, i, q)?;
     }
-    Cut { ok: true, part: q }
+    Some(q)
 }

@@ -1,21 +1,23 @@
--- Keeping a point loses nothing. Put over a point that it weakly dominates, or in a new place, it dominates what that point did. Where there is no
--- room, the greatest of the gathered points and f is left out and becomes the limit: what it dominates does not come before it, and the limit only
--- falls, since no gathered point came after the old one.
+-- Keeping a trade loses nothing. Put over a trade that it weakly dominates, or in a new place, it dominates what that one did. Where there is no
+-- room, the greatest of the gathered trades and it is left out and becomes the limit: what it dominates does not come before it, and the limit only
+-- falls, since no gathered trade came after the old one.
 use mathlib.Core.Path.{◌≡◌, refl, ap, sym, subst, ◌∙◌}
 use mathlib.Core.Logic.{◌⊎◌, inl, inr, ⊎_elim}
-use mathlib.Core.Bool.{Bool, true}
 use mathlib.Core.List.{List}
-use Prim.Native.Nat.{ℕ, zero, suc, ◌+◌, ◌*◌, ◌≤◌, ◌<◌}
-use native.Mathlib.Nat.{not-suc-le-zero, zero-add}
+use Prim.Native.Nat.{ℕ, zero, suc, ◌+◌, ◌≤◌, ◌<◌}
+use native.Mathlib.Nat.{not-suc-le-zero}
 use native.Mathlib.Omega.{arith}
-use lib.ListN.{length, get_or, set}
+use lib.ListN.{length, get_or, set, take}
 use lib.Seq.{get_or-set_same, get_or-set_other}
 use borrow.Author.Count.{below_more}
-use Rattle.charging.proofs.SumLaws.{eq-or}
-use Rattle.capping.specs.Caps.{less, at, Free, Fresh}
-use Rattle.capping.proofs.OrderLaws.{lt-or, lex-trans, lex-up, lex-same}
-use Rattle.capping.proofs.CapLaws.{row_in}
-use Rattle.seeking.specs.Stocks.{from, row, Same, Within, Limited, Placed, Among, Either, Least, Greatest, Keeps}
+use Rattle.std.specs.Prelude.{Option, Some}
+use Rattle.std.proofs.lemmas.List.{length-take-le, get_or-take}
+use Rattle.charging.proofs.SumLaws.{eq-or, lt-or}
+use Rattle.capping.specs.declared.trades.Trade.{Trade}
+use Rattle.capping.specs.Caps.{less, at, row, no_trade, Within, Fresh, Before}
+use Rattle.capping.proofs.OrderLaws.{lex-trans, lex-up}
+use Rattle.seeking.specs.declared.stocks.Stock.{Stock}
+use Rattle.seeking.specs.Stocks.{Accounted, Limited, Backed, Among, Least, Greatest, Keeps}
 
 -- ---- less
 
@@ -32,12 +34,6 @@ lex-through (suc m) j f g h a n =
     (λ x. ⊎_elim (λ e. inr (x.0 ∙ sym e, lex-through m (j + 1) f g h x.1 (λ y. n (inr (e, y))))) (λ e. inl (omega (arith, x.0, z, e))) (eq-or (h j) (g j))) a)
     (lt-or (h j) (g j))
 
-pub lex-both : (k : ℕ) (f f' g g' : ℕ → ℕ) → Same k f f' → Same k g g' → less k 0 f g → less k 0 f' g'
-lex-both k f f' g g' = lex-same k 0 k f f' g g' (omega arith)
-
-pub from_zero : (k : ℕ) (f : List ℕ) → Same k (from f 0) (at f)
-from_zero k f i l = ap (λ (u : ℕ). get_or f u 0) (zero-add i)
-
 -- ---- Fresh: decided
 
 within-or : (k : ℕ) (f h : ℕ → ℕ) → Within k f h ⊎ (Within k f h → ⊥)
@@ -46,112 +42,152 @@ within-or (suc k) f h =
     ⊎_elim (λ y. ⊎_elim (λ z. inr (λ u. omega (arith, z, u k (omega arith)))) (λ z. inl (λ i l. below_more (λ (v : ℕ). f v ≤ h v) k y z i (omega arith))) (lt-or (h k) (f k)))
     (λ y. inr (λ u. y (λ i l. u i (omega arith)))) (within-or k f h)
 
-pub fresh-or : (k : ℕ) (g : List ℕ) (c : ℕ) (f : ℕ → ℕ) → Fresh k g c f ⊎ (Fresh k g c f → ⊥)
-fresh-or k g zero f = inl (λ q l. absurd (not-suc-le-zero l))
-fresh-or k g (suc c) f =
-    ⊎_elim (λ y. ⊎_elim (λ z. inr (λ u. u c (omega arith) z)) (λ z. inl (λ q l. below_more (λ (v : ℕ). Free k g (v * k) f) c y z q (omega arith))) (within-or k (row k g c) f))
-    (λ y. inr (λ u. y (λ q l. u q (omega arith)))) (fresh-or k g c f)
+pub fresh-or : (k : ℕ) (points : List Trade) (c : ℕ) (f : ℕ → ℕ) → Fresh k points c f ⊎ (Fresh k points c f → ⊥)
+fresh-or k points zero f = inl (λ q l. absurd (not-suc-le-zero l))
+fresh-or k points (suc c) f =
+    ⊎_elim (λ y. ⊎_elim (λ z. inr (λ u. u c (omega arith) z)) (λ z. inl (λ q l. below_more (λ (v : ℕ). Within k (row points v) f → ⊥) c y z q (omega arith))) (within-or k (row points c) f))
+    (λ y. inr (λ u. y (λ q l. u q (omega arith)))) (fresh-or k points c f)
 
 -- what dominates f dominates what f is at most
-pub fresh-down : (k : ℕ) (g : List ℕ) (c : ℕ) (f h : ℕ → ℕ) → Within k f h → Fresh k g c h → Fresh k g c f
-fresh-down k g c f h b fr q l u = fr q l (λ i z. omega (arith, u i z, b i z))
+pub fresh-down : (k : ℕ) (points : List Trade) (c : ℕ) (f h : ℕ → ℕ) → Within k f h → Fresh k points c h → Fresh k points c f
+fresh-down k points c f h b fr q l u = fr q l (λ i z. omega (arith, u i z, b i z))
 
--- ---- Least and Greatest, one point more: r is the new point j or the old b
+-- ---- The first c trades as a run of their own
 
-pub least_more : (k : ℕ) (g : List ℕ) (j b r : ℕ) → b ≤ j → Least k g j b → Either (r ≡ j) (r ≡ b) (less k 0 (row k g j) (row k g b)) → (r < j + 1) × Least k g (j + 1) r
-least_more k g j b r q o = ⊎_elim (λ e. (omega (arith, e.0), subst (Least k g (j + 1)) (sym e.0) (new e.1))) (λ e. (omega (arith, e.0), subst (Least k g (j + 1)) (sym e.0) (stays e.1)))
-  where
-    new : less k 0 (row k g j) (row k g b) → Least k g (j + 1) j
-    new z = below_more (λ (u : ℕ). less k 0 (row k g u) (row k g j) → ⊥) j (λ u l y. o u l (lex-trans k 0 (row k g u) (row k g j) (row k g b) y z)) (lex-self k (row k g j))
+module _ (points : List Trade) (c : ℕ) (l : c ≤ length points) where
+  pub front_length : length (take c points) ≡ c
+  front_length = length-take-le c points l
 
-    stays : (less k 0 (row k g j) (row k g b) → ⊥) → Least k g (j + 1) b
-    stays n = below_more (λ (u : ℕ). less k 0 (row k g u) (row k g b) → ⊥) j o n
+  pub front-at : (q : ℕ) → q < c → get_or (take c points) q no_trade ≡ get_or points q no_trade
+  front-at q i = get_or-take c points q no_trade i
 
-pub greatest-more : (k : ℕ) (g : List ℕ) (j b r : ℕ) → b ≤ j → Greatest k g j b → Either (r ≡ j) (r ≡ b) (less k 0 (row k g b) (row k g j)) → (r < j + 1) × Greatest k g (j + 1) r
-greatest-more k g j b r q o = ⊎_elim (λ e. (omega (arith, e.0), subst (Greatest k g (j + 1)) (sym e.0) (new e.1))) (λ e. (omega (arith, e.0), subst (Greatest k g (j + 1)) (sym e.0) (stays e.1)))
-  where
-    new : less k 0 (row k g b) (row k g j) → Greatest k g (j + 1) j
-    new z = below_more (λ (u : ℕ). less k 0 (row k g j) (row k g u) → ⊥) j (λ u l y. o u l (lex-trans k 0 (row k g b) (row k g j) (row k g u) z y)) (lex-self k (row k g j))
+  front-row : (P : (ℕ → ℕ) → Type 0) (q : ℕ) → q < c → P (row (take c points) q) → P (row points q)
+  front-row P q i = subst (λ (t : Trade). P (at t.costs)) (front-at q i)
 
-    stays : (less k 0 (row k g b) (row k g j) → ⊥) → Greatest k g (j + 1) b
-    stays n = below_more (λ (u : ℕ). less k 0 (row k g b) (row k g u) → ⊥) j o n
+  back-row : (P : (ℕ → ℕ) → Type 0) (q : ℕ) → q < c → P (row points q) → P (row (take c points) q)
+  back-row P q i = subst (λ (t : Trade). P (at t.costs)) (sym (front-at q i))
 
--- ---- Placed
+  pub fresh-back : (k : ℕ) (f : ℕ → ℕ) → Fresh k points c f → Fresh k (take c points) (length (take c points)) f
+  fresh-back k f fr q i w = let z : q < c = omega (arith, front_length) in fr q z (front-row (λ (g : ℕ → ℕ). Within k g f) q z w)
 
-pub placed-stored : (k : ℕ) (f : ℕ → ℕ) (a : ℕ) (g found : List ℕ) (j : ℕ) (g' : List ℕ) → j < length found → Same k (row k g' j) f
-    → ((v : ℕ) → v < j * k → get_or g' v 0 ≡ get_or g v 0) → ((v : ℕ) → j * k + k ≤ v → get_or g' v 0 ≡ get_or g v 0) → Placed k f a g found j g' (set found j a)
-placed-stored k f a g found j g' l e below above =
-    record {
-      here = e;
-      number = get_or-set_same found j a 0 l;
-      others = λ u n i z. ⊎_elim (λ y. below (u * k + i) (omega (arith, row_in u j k y))) (λ y. above (u * k + i) (omega (arith, row_in j u k (omega (arith, y, n))))) (lt-or u j);
-      numbers = λ u n. get_or-set_other found j u a 0 n;
-    }
+  pub least-front : (k j : ℕ) → j < c → Least k (take c points) (length (take c points)) j → Least k points c j
+  least-front k j z o u i y =
+      o u (omega (arith, front_length)) (back-row (λ (g : ℕ → ℕ). less k 0 g (row (take c points) j)) u i (back-row (λ (g : ℕ → ℕ). less k 0 (row points u) g) j z y))
 
-pub placed_same : (k : ℕ) (f h : ℕ → ℕ) (a : ℕ) (g found : List ℕ) (j : ℕ) (g' found' : List ℕ) → Same k f h → Placed k f a g found j g' found' → Placed k h a g found j g' found'
-placed_same k f h a g found j g' found' e p = record { here = λ i l. p.here i l ∙ e i l; number = p.number; others = p.others; numbers = p.numbers }
+  pub greatest-front : (k j : ℕ) → j < c → Greatest k (take c points) (length (take c points)) j → Greatest k points c j
+  greatest-front k j z o u i y =
+      o u (omega (arith, front_length)) (back-row (λ (g : ℕ → ℕ). less k 0 g (row (take c points) u)) j z (back-row (λ (g : ℕ → ℕ). less k 0 (row points j) g) u i y))
 
-module _ (k : ℕ) (f : ℕ → ℕ) (a : ℕ) (g found : List ℕ) (j : ℕ) (g' found' : List ℕ) (p : Placed k f a g found j g' found') where
-  pub free-old : (u : ℕ) → (u ≡ j → ⊥) → (h : ℕ → ℕ) → Free k g' (u * k) h → Free k g (u * k) h
-  free-old u e h fr b = fr (λ i l. omega (arith, p.others u e i l, b i l))
+  pub worse-front : (k j : ℕ) (f : ℕ → ℕ) → j < length (take c points) → Within k f (row (take c points) j) → (j < c) × Within k f (row points j)
+  worse-front k j f i w = let z : j < c = omega (arith, front_length) in (z, front-row (λ (g : ℕ → ℕ). Within k f g) j z w)
 
-  pub free_new : (h : ℕ → ℕ) → Free k g' (j * k) h → Within k f h → ⊥
-  free_new h fr b = fr (λ i l. omega (arith, p.here i l, b i l))
+-- ---- Least and Greatest, one trade more
 
-  here-at : (u : ℕ) → u ≡ j → Same k (row k g' u) f × (get_or found' u 0 ≡ a)
-  here-at u e = subst (λ (v : ℕ). Same k (row k g' v) f × (get_or found' v 0 ≡ a)) (sym e) (p.here, p.number)
+module _ (k : ℕ) (points : List Trade) (j b : ℕ) where
+  pub least-new : Least k points j b → less k 0 (row points j) (row points b) → Least k points (j + 1) j
+  least-new o z = below_more (λ (u : ℕ). less k 0 (row points u) (row points j) → ⊥) j (λ u l y. o u l (lex-trans k 0 (row points u) (row points j) (row points b) y z)) (lex-self k (row points j))
 
-  came : (c c' : ℕ) → ((u : ℕ) → u < c' → (u ≡ j → ⊥) → u < c) → (u : ℕ) → u < c' → (Same k (row k g' u) f × (get_or found' u 0 ≡ a)) ⊎ Among k g found c (row k g' u) (get_or found' u 0)
-  came c c' in' u l = ⊎_elim (λ e. inl (here-at u e)) (λ e. inr (record { place = u; inside = in' u l e; vector = p.others u e; number = p.numbers u e })) (eq-or u j)
+  pub least-old : Least k points j b → (less k 0 (row points j) (row points b) → ⊥) → Least k points (j + 1) b
+  least-old o n = below_more (λ (u : ℕ). less k 0 (row points u) (row points b) → ⊥) j o n
 
-  -- over a point that f weakly dominates, or in a new place
-  pub keeps_placed : (c c' : ℕ) (have : Bool) (top : List ℕ) → c' ≤ length found' → c ≤ c' → j < c' → ((u : ℕ) → u < c' → (u ≡ j → ⊥) → u < c) → (j < c → Within k f (row k g j))
-      → Limited k g c have top → (have ≡ true → less k 0 f (at top)) → Keeps k f a g found c have top g' found' c' have top
-  keeps_placed c c' have top rm up jl in' wi lim bef =
+  pub greatest-new : Greatest k points j b → less k 0 (row points b) (row points j) → Greatest k points (j + 1) j
+  greatest-new o z = below_more (λ (u : ℕ). less k 0 (row points j) (row points u) → ⊥) j (λ u l y. o u l (lex-trans k 0 (row points b) (row points j) (row points u) z y)) (lex-self k (row points j))
+
+  pub greatest-old : Greatest k points j b → (less k 0 (row points b) (row points j) → ⊥) → Greatest k points (j + 1) b
+  greatest-old o n = below_more (λ (u : ℕ). less k 0 (row points b) (row points u) → ⊥) j o n
+
+-- ---- A trade set at place j
+
+module _ (k : ℕ) (trade : Trade) (points : List Trade) (j : ℕ) (l : j < length points) where
+  set-here : get_or (set points j trade) j no_trade ≡ trade
+  set-here = get_or-set_same points j trade no_trade l
+
+  set-other : (u : ℕ) → (u ≡ j → ⊥) → get_or (set points j trade) u no_trade ≡ get_or points u no_trade
+  set-other u e = get_or-set_other points j u trade no_trade e
+
+  pub free-old : (u : ℕ) → (u ≡ j → ⊥) → (h : ℕ → ℕ) → (Within k (row (set points j trade) u) h → ⊥) → Within k (row points u) h → ⊥
+  free-old u e h fr b = fr (subst (λ (t : Trade). Within k (at t.costs) h) (sym (set-other u e)) b)
+
+  pub free_new : (h : ℕ → ℕ) → (Within k (row (set points j trade) j) h → ⊥) → Within k (at trade.costs) h → ⊥
+  free_new h fr b = fr (subst (λ (t : Trade). Within k (at t.costs) h) (sym set-here) b)
+
+  -- what is at a place after is the trade, or was there before
+  pub set-cases : (P : Trade → Type 0) (u : ℕ) → (u ≡ j → P trade) → ((u ≡ j → ⊥) → P (get_or points u no_trade)) → P (get_or (set points j trade) u no_trade)
+  set-cases P u a b =
+      ⊎_elim (λ e. subst P (sym (ap (λ (v : ℕ). get_or (set points j trade) v no_trade) e ∙ set-here)) (a e)) (λ e. subst P (sym (set-other u e)) (b e)) (eq-or u j)
+
+  came : (c c' : ℕ) → ((u : ℕ) → u < c' → (u ≡ j → ⊥) → u < c) → (u : ℕ) → u < c'
+      → (get_or (set points j trade) u no_trade ≡ trade) ⊎ Among points c (get_or (set points j trade) u no_trade)
+  came c c' in' u z = set-cases (λ (t : Trade). (t ≡ trade) ⊎ Among points c t) u (λ e. inl refl) (λ e. inr (record { place = u; inside = in' u z e; here = refl }))
+
+  -- over a trade that it weakly dominates, or in a new place
+  pub keeps_placed : (stock stock' : Stock) → stock'.limit ≡ stock.limit → stock'.count ≤ length (set points j trade) → stock.count ≤ stock'.count → j < stock'.count
+      → ((u : ℕ) → u < stock'.count → (u ≡ j → ⊥) → u < stock.count) → (j < stock.count → Within k (at trade.costs) (row points j))
+      → Limited k points stock → Before k stock.limit (at trade.costs) → Keeps k trade points stock (set points j trade) stock'
+  keeps_placed stock stock' same rm up jl in' wi lim bef =
       record {
         room = rm;
-        came = came c c' in';
-        limited = λ h u l z.
-            ⊎_elim (λ e. lex-self k (at top) (lex-trans k 0 (at top) f (at top) (lex-both k (at top) (at top) (row k g' u) f (λ i _. refl) (here-at u e).0 z) (bef h)))
-            (λ e. lim h u (in' u l e) (lex-both k (at top) (at top) (row k g' u) (row k g u) (λ i _. refl) (p.others u e) z)) (eq-or u j);
-        some = λ s h. omega (arith, s h);
+        came = came stock.count stock'.count in';
+        limited = λ top is u z.
+            let was : stock.limit ≡ Some top = sym same ∙ is in
+            set-cases (λ (t : Trade). less k 0 (at top) (at t.costs) → ⊥) u
+            (λ e y. lex-self k (at top) (lex-trans k 0 (at top) (at trade.costs) (at top) y (bef top was)))
+            (λ e y. lim top was u (in' u z e) y);
+        some = λ s top is. omega (arith, s top (sym same ∙ is));
         new = λ h b fr. absurd (free_new h (fr j jl) b);
-        kept = λ h acc fr. acc (λ u l.
-            ⊎_elim (λ e. subst (λ (v : ℕ). Free k g (v * k) h) (sym e) (λ b. free_new h (fr j jl) (λ i y. omega (arith, wi (omega (arith, l, e)) i y, b i y))))
-            (λ e. free-old u e h (fr u (omega arith))) (eq-or u j));
+        kept = λ h acc fr.
+            let past = acc (λ u z.
+            ⊎_elim (λ e. subst (λ (v : ℕ). Within k (row points v) h → ⊥) (sym e) (λ b. free_new h (fr j jl) (λ i y. omega (arith, wi (omega (arith, z, e)) i y, b i y))))
+            (λ e. free-old u e h (fr u (omega arith))) (eq-or u j)) in
+            record { top = past.top; is = same ∙ past.is; behind = past.behind };
       }
 
-  -- over the greatest point, which becomes the limit
-  pub keeps-last : (c : ℕ) (have : Bool) (top top' : List ℕ) → c ≤ length found' → j < c → Greatest k g c j → Same k (at top') (row k g j) → less k 0 f (at top')
-      → Limited k g c have top → Keeps k f a g found c have top g' found' c true top'
-  keeps-last c have top top' rm jl gr e z lim =
+  -- over the greatest trade, which becomes the limit
+  pub keeps-last : (stock : Stock) (top : List ℕ) → stock.count ≤ length (set points j trade) → j < stock.count → Greatest k points stock.count j → top ≡ (get_or points j no_trade).costs
+      → less k 0 (at trade.costs) (at top) → Limited k points stock → Keeps k trade points stock (set points j trade) (record { count = stock.count; limit = Some top })
+  keeps-last stock top rm jl gr e z lim =
       record {
         room = rm;
-        came = came c c (λ u l _. l);
-        limited = λ _ u l y.
-            ⊎_elim (λ q. lex-self k (at top') (lex-trans k 0 (at top') f (at top') (lex-both k (at top') (at top') (row k g' u) f (λ i _. refl) (here-at u q).0 y) z))
-            (λ q. gr u l (lex-both k (at top') (row k g j) (row k g' u) (row k g u) e (p.others u q) y)) (eq-or u j);
-        some = λ _ _. omega arith;
+        came = came stock.count stock.count (λ u y _. y);
+        limited = λ top' is u y.
+            let same : top ≡ top' = cc in
+            subst (λ (t : List ℕ). less k 0 (at t) (row (set points j trade) u) → ⊥) same
+            (set-cases (λ (t : Trade). less k 0 (at top) (at t.costs) → ⊥) u
+            (λ q x. lex-self k (at top) (lex-trans k 0 (at top) (at trade.costs) (at top) x z))
+            (λ q x. gr u y (subst (λ (t : List ℕ). less k 0 (at t) (row points u)) e x)));
+        some = λ _ _ _. omega arith;
         new = λ h b fr. absurd (free_new h (fr j jl) b);
-        kept = λ h acc fr. (refl, λ y. let past = acc (old h fr y) in past.1 (lex-through k 0 h (at top') (at top) y (λ q. lim past.0 j jl (lex-both k (at top) (at top) (at top') (row k g j) (λ i _. refl) e q))));
+        kept = λ h acc fr.
+            record {
+              top = top;
+              is = refl;
+              behind = λ y.
+                  let past = acc (old h fr y) in
+                  past.behind (lex-through k 0 h (at top) (at past.top) y (λ q. lim past.top past.is j jl (subst (λ (t : List ℕ). less k 0 (at past.top) (at t)) e q)));
+            };
       }
     where
-      old : (h : ℕ → ℕ) → Fresh k g' c h → less k 0 h (at top') → Fresh k g c h
-      old h fr y u l =
-          ⊎_elim (λ q. subst (λ (v : ℕ). Free k g (v * k) h) (sym q) (λ b. lex-up k 0 k h (at top') (omega arith) (λ i w. omega (arith, e i w, b i w)) y))
-          (λ q. free-old u q h (fr u l)) (eq-or u j)
+      old : (h : ℕ → ℕ) → Fresh k (set points j trade) stock.count h → less k 0 h (at top) → Fresh k points stock.count h
+      old h fr y u i =
+          ⊎_elim (λ q. subst (λ (v : ℕ). Within k (row points v) h → ⊥) (sym q) (λ b. lex-up k 0 k h (at top) (omega arith) (subst (λ (t : List ℕ). Within k (at t) h) (sym e) b) y))
+          (λ q. free-old u q h (fr u i)) (eq-or u j)
 
 -- left out, as the limit
-pub keeps-out : (k : ℕ) (f : ℕ → ℕ) (a : ℕ) (g found : List ℕ) (j c : ℕ) (have : Bool) (top : List ℕ) (h : ℕ → ℕ) (top' : List ℕ) → c ≤ length found → j < c → Greatest k g c j → Same k h (row k g j)
-    → (less k 0 f h → ⊥) → Same k (at top') f → Limited k g c have top → (have ≡ true → less k 0 f (at top)) → Keeps k f a g found c have top g found c true top'
-keeps-out k f a g found j c have top h top' rm jl gr e n e' lim bef =
+pub keeps-out : (k : ℕ) (trade : Trade) (points : List Trade) (stock : Stock) (j : ℕ) → stock.count ≤ length points → j < stock.count → Greatest k points stock.count j
+    → (less k 0 (at trade.costs) (row points j) → ⊥) → Before k stock.limit (at trade.costs) → Keeps k trade points stock points (record { count = stock.count; limit = Some trade.costs })
+keeps-out k trade points stock j rm jl gr n bef =
     record {
       room = rm;
-      came = λ u l. inr (record { place = u; inside = l; vector = λ i _. refl; number = refl });
-      limited = λ _ u l y.
-          n (lex-both k f f (row k g j) h (λ i _. refl) (λ i z. sym (e i z))
-          (lex-through k 0 f (row k g u) (row k g j) (lex-both k (at top') f (row k g u) (row k g u) e' (λ i _. refl) y) (gr u l)));
-      some = λ _ _. omega arith;
-      new = λ h b fr. (refl, lex-up k 0 k h (at top') (omega arith) (λ i z. omega (arith, e' i z, b i z)));
-      kept = λ h acc fr. (refl, λ y. let past = acc fr in past.1 (lex-trans k 0 h f (at top) (lex-both k h h (at top') f (λ i _. refl) e' y) (bef past.0)));
+      came = λ u l. inr (record { place = u; inside = l; here = refl });
+      limited = λ top is u l y.
+          let same : trade.costs ≡ top = cc in
+          n (lex-through k 0 (at trade.costs) (row points u) (row points j) (subst (λ (t : List ℕ). less k 0 (at t) (row points u)) (sym same) y) (gr u l));
+      some = λ _ _ _. omega arith;
+      new = λ h b fr. record { top = trade.costs; is = refl; behind = lex-up k 0 k h (at trade.costs) (omega arith) b };
+      kept = λ h acc fr.
+          record {
+            top = trade.costs;
+            is = refl;
+            behind = λ y. let past = acc fr in past.behind (lex-trans k 0 h (at trade.costs) (at past.top) y (bef past.top past.is));
+          };
     }

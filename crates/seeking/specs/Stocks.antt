@@ -1,67 +1,55 @@
--- Stocks of gathered points: c vectors of k numbers in g, one after the other, in any order, their assignments in `found`, and maybe a limit `top`.
-use Rattle.std.specs.Prelude.{◌≡◌, ◌⊎◌, Bool, true, List, ℕ, ◌+◌, ◌*◌, ◌≤◌, ◌<◌, length, get_or}
-use Rattle.capping.specs.Caps.{less, at, Fresh}
-
--- The numbers of g from a on.
-abbrev pub from : List ℕ → ℕ → ℕ → ℕ
-from g a i = get_or g (a + i) 0
-
--- The vector of the point j.
-abbrev pub row : ℕ → List ℕ → ℕ → ℕ → ℕ
-row k g j = from g (j * k)
+-- Stocks of gathered trades: the first ones of a run, in any order, and maybe a limit.
+use Rattle.std.specs.Prelude.{◌≡◌, ◌⊎◌, Option, Some, None, List, ℕ, ◌≤◌, ◌<◌, length, get_or}
+use Rattle.capping.specs.declared.trades.Trade.{Trade}
+use Rattle.capping.specs.Caps.{less, at, row, no_trade, Within, Fresh}
+use Rattle.seeking.specs.declared.stocks.Stock.{Stock}
 
 -- f and h have the same first k places.
 abbrev pub Same : ℕ → (ℕ → ℕ) → (ℕ → ℕ) → Type 0
 Same k f h = (i : ℕ) → i < k → f i ≡ h i
 
--- f is at most h in each of the first k places: f weakly dominates h.
-abbrev pub Within : ℕ → (ℕ → ℕ) → (ℕ → ℕ) → Type 0
-Within k f h = (i : ℕ) → i < k → f i ≤ h i
-
 -- There is a limit, and f does not come before it.
-abbrev pub Past : ℕ → Bool → List ℕ → (ℕ → ℕ) → Type 0
-Past k have top f = (have ≡ true) × (less k 0 f (at top) → ⊥)
+pub record Past (k : ℕ) (limit : Option (List ℕ)) (f : ℕ → ℕ) : Type 0 where
+  pub top : List ℕ
+  pub is : limit ≡ Some top
+  pub behind : less k 0 f (at top) → ⊥
 
--- f is accounted for: a gathered point weakly dominates it, or it does not come before the limit.
-abbrev pub Accounted : ℕ → List ℕ → ℕ → Bool → List ℕ → (ℕ → ℕ) → Type 0
-Accounted k g c have top f = Fresh k g c f → Past k have top f
+-- f is accounted for: a gathered trade weakly dominates it, or it does not come before the limit.
+abbrev pub Accounted : ℕ → List Trade → Stock → (ℕ → ℕ) → Type 0
+Accounted k points stock f = Fresh k points stock.count f → Past k stock.limit f
 
--- No gathered point comes after the limit.
-abbrev pub Limited : ℕ → List ℕ → ℕ → Bool → List ℕ → Type 0
-Limited k g c have top = have ≡ true → (j : ℕ) → j < c → less k 0 (at top) (row k g j) → ⊥
+-- No gathered trade comes after the limit.
+abbrev pub Limited : ℕ → List Trade → Stock → Type 0
+Limited k points stock = (top : List ℕ) → stock.limit ≡ Some top → (j : ℕ) → j < stock.count → less k 0 (at top) (row points j) → ⊥
 
--- The point j is f with the number a; the others are as before.
-pub record Placed (k : ℕ) (f : ℕ → ℕ) (a : ℕ) (g found : List ℕ) (j : ℕ) (g' found' : List ℕ) : Type 0 where
-  pub here : Same k (row k g' j) f
-  pub number : get_or found' j 0 ≡ a
-  pub others : (u : ℕ) → (u ≡ j → ⊥) → Same k (row k g' u) (row k g u)
-  pub numbers : (u : ℕ) → (u ≡ j → ⊥) → get_or found' u 0 ≡ get_or found u 0
+-- A limit comes only where a trade is gathered.
+abbrev pub Backed : Stock → Type 0
+Backed stock = (top : List ℕ) → stock.limit ≡ Some top → 1 ≤ stock.count
 
--- f with the number a is one of the c points.
-pub record Among (k : ℕ) (g found : List ℕ) (c : ℕ) (f : ℕ → ℕ) (a : ℕ) : Type 0 where
+-- One of the first c trades.
+pub record Among (points : List Trade) (c : ℕ) (trade : Trade) : Type 0 where
   pub place : ℕ
   pub inside : place < c
-  pub vector : Same k f (row k g place)
-  pub number : a ≡ get_or found place 0
+  pub here : trade ≡ get_or points place no_trade
 
--- A where C holds, else B.
-abbrev pub Either : Type 0 → Type 0 → Type 0 → Type 0
-Either A B C = (A × C) ⊎ (B × (C → ⊥))
+-- The trade j is a least of the first c.
+abbrev pub Least : ℕ → List Trade → ℕ → ℕ → Type 0
+Least k points c j = (u : ℕ) → u < c → less k 0 (row points u) (row points j) → ⊥
 
--- The point j is a least of the c points.
-abbrev pub Least : ℕ → List ℕ → ℕ → ℕ → Type 0
-Least k g c j = (u : ℕ) → u < c → less k 0 (row k g u) (row k g j) → ⊥
+-- The trade j is a greatest of the first c.
+abbrev pub Greatest : ℕ → List Trade → ℕ → ℕ → Type 0
+Greatest k points c j = (u : ℕ) → u < c → less k 0 (row points j) (row points u) → ⊥
 
--- The point j is a greatest of the c points.
-abbrev pub Greatest : ℕ → List ℕ → ℕ → ℕ → Type 0
-Greatest k g c j = (u : ℕ) → u < c → less k 0 (row k g j) (row k g u) → ⊥
+-- A trade that f weakly dominates, if one is answered.
+abbrev pub Worse : ℕ → (ℕ → ℕ) → List Trade → Option ℕ → Type 0
+Worse k f points (Some j) = (j < length points) × Within k f (row points j)
+Worse k f points None = Unit {0}
 
--- What keeping f with the number a does to a stock: its points are old ones and f, what f weakly dominates is accounted for, and what was stays so.
--- A limit comes only where a point is gathered.
-pub record Keeps (k : ℕ) (f : ℕ → ℕ) (a : ℕ) (g found : List ℕ) (c : ℕ) (have : Bool) (top : List ℕ) (g' found' : List ℕ) (c' : ℕ) (have' : Bool) (top' : List ℕ) : Type 0 where
-  pub room : c' ≤ length found'
-  pub came : (u : ℕ) → u < c' → (Same k (row k g' u) f × (get_or found' u 0 ≡ a)) ⊎ Among k g found c (row k g' u) (get_or found' u 0)
-  pub limited : Limited k g' c' have' top'
-  pub some : (have ≡ true → 1 ≤ c) → have' ≡ true → 1 ≤ c'
-  pub new : (h : ℕ → ℕ) → Within k f h → Accounted k g' c' have' top' h
-  pub kept : (h : ℕ → ℕ) → Accounted k g c have top h → Accounted k g' c' have' top' h
+-- What keeping a trade does to a stock: its trades are old ones and the new one, what that weakly dominates is accounted for, and what was stays so.
+pub record Keeps (k : ℕ) (trade : Trade) (points : List Trade) (stock : Stock) (points' : List Trade) (stock' : Stock) : Type 0 where
+  pub room : stock'.count ≤ length points'
+  pub came : (u : ℕ) → u < stock'.count → (get_or points' u no_trade ≡ trade) ⊎ Among points stock.count (get_or points' u no_trade)
+  pub limited : Limited k points' stock'
+  pub some : Backed stock → Backed stock'
+  pub new : (h : ℕ → ℕ) → Within k (at trade.costs) h → Accounted k points' stock' h
+  pub kept : (h : ℕ → ℕ) → Accounted k points stock h → Accounted k points' stock' h

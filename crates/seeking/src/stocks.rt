@@ -1,158 +1,93 @@
-// Stocks of gathered points: the least and the greatest, keeping one more, dropping one.
-ghost use Rattle.std.specs.Prelude.{◌≡◌, true, ◌+◌, ◌-◌, ◌*◌, ◌<◌, ◌≤◌, length, get_or};
-ghost use Rattle.capping.specs.Caps.{less, at};
-ghost use Rattle.seeking.specs.Stocks.{row, Within, Limited, Placed, Either, Least, Greatest, Keeps};
+// Stocks of gathered trades: the least and the greatest, keeping one more.
+ghost use Rattle.std.specs.Prelude.{◌≡◌, ◌<◌, ◌≤◌, length};
+ghost use Rattle.capping.specs.Caps.{at, Before};
+ghost use Rattle.seeking.specs.Stocks.{Worse, Least, Greatest, Limited, Keeps};
 
-use crate::vectors::{earlier, earlier_at, load, store, within};
+use crate::vectors::{earlier, within};
+use capping::{Trade, Vector};
 
-// How many points are gathered, and whether there is a limit.
-#[derive(Clone, Copy, Drop)]
+// How many trades are gathered, and the limit, if there is one: what does not come before it is not sought.
+#[derive(Clone, Copy, Debug, PartialEq, Eq)]
 pub struct Stock {
     pub count: usize,
-    pub cut: bool,
+    pub limit: Option<Vector>,
 }
 
-// The point j where it comes before the point b, else b.
-pub fn earlier_of(k: usize, g: &[u64], j: usize, b: usize) -> usize
-    requires { (j * k + k ≤ length g.now) × (b * k + k ≤ length g.now) }
-    ensures { Either (result ≡ j) (result ≡ b) (less k 0 (row k g.now j) (row k g.now b)) }
-{
-    if earlier_at(k, g, j * k, g, b * k) {
-        return j;
-    }
-    b
-}
-
-// The point j where it comes after the point b, else b.
-pub fn later_of(k: usize, g: &[u64], j: usize, b: usize) -> usize
-    requires { (j * k + k ≤ length g.now) × (b * k + k ≤ length g.now) }
-    ensures { Either (result ≡ j) (result ≡ b) (less k 0 (row k g.now b) (row k g.now j)) }
-{
-    if earlier_at(k, g, b * k, g, j * k) {
-        return j;
-    }
-    b
-}
-
-// A least of c points.
-pub fn least(k: usize, g: &[u64], c: usize) -> usize
-    requires { c * k ≤ length g.now }
-    ensures { (1 ≤ c → result < c) × Least k g.now c result }
+// A least of the trades.
+pub fn least(k: usize, trades: &[Trade]) -> usize
+    requires { (k ≤ 4) × (1 ≤ length trades.now) }
+    ensures { (result < length trades.now) × Least k trades.now (length trades.now) result }
 {
     let mut best = 0;
-    let mut j = 0;
-    while j < c {
-        best = earlier_of(k, g, j, best);
-        j += 1;
-    }
-    best
-}
-
-// A greatest of c points.
-pub fn greatest(k: usize, g: &[u64], c: usize) -> usize
-    requires { c * k ≤ length g.now }
-    ensures { (1 ≤ c → result < c) × Greatest k g.now c result }
-{
-    let mut best = 0;
-    let mut j = 0;
-    while j < c {
-        best = later_of(k, g, j, best);
-        j += 1;
-    }
-    best
-}
-
-// The first of c points that f weakly dominates, or c.
-pub fn worse(k: usize, f: &[u64], g: &[u64], c: usize) -> usize
-    requires { (k ≤ length f.now) × (c * k ≤ length g.now) }
-    ensures { (result ≤ c) × (result < c → Within k (at f.now) (row k g.now result)) }
-{
-    let mut j = 0;
-    while j < c {
-        if within(k, f, g, j * k) {
-            return j;
+    for (j, trade) in trades.iter().enumerate() {
+        if earlier(k, &trade.costs, &trades[best].costs) {
+            best = j;
         }
-        j += 1;
     }
-    c
+    best
 }
 
-// f with the number a as the point j.
-pub fn place(k: usize, f: &[u64], a: u64, g: &mut [u64], found: &mut [u64], j: usize)
-    requires { (k ≤ length f.now) × (j < length found.old) × (length found.old * k ≤ length g.old) }
-    ensures { Placed k (at f.now) a g.old found.old j g.new found.new }
+// A greatest of the trades. Kept beside `least`: a function over both orders would need the order's laws as parameters, and is longer.
+pub fn greatest(k: usize, trades: &[Trade]) -> usize
+    requires { (k ≤ 4) × (1 ≤ length trades.now) }
+    ensures { (result < length trades.now) × Greatest k trades.now (length trades.now) result }
 {
-    store(k, f, g, j * k);
-    found[j] = a;
+    let mut best = 0;
+    for (j, trade) in trades.iter().enumerate() {
+        if earlier(k, &trades[best].costs, &trade.costs) {
+            best = j;
+        }
+    }
+    best
 }
 
-// The point `last` in the place of the point j; f is scratch.
-pub fn drop_point(k: usize, g: &mut [u64], found: &mut [u64], j: usize, last: usize, f: &mut [u64])
-    requires { (k ≤ length f.old) × (j < length found.old) × (last < length found.old) × (length found.old * k ≤ length g.old) }
-    ensures { Placed k (row k g.old last) (get_or found.old last 0) g.old found.old j g.new found.new }
+// The first of the trades that f weakly dominates.
+pub fn worse(k: usize, f: &Vector, trades: &[Trade]) -> Option<usize>
+    requires { k ≤ 4 }
+    ensures { Worse k (at f.now) trades.now result }
 {
-    load(k, &*g, last * k, f);
-    let a = found[last];
-    place(k, &*f, a, g, found, j);
+    trades.iter().position(|trade| within(k, f, &trade.costs))
 }
 
-// f against c points where there is no room for more: the greatest of them and f is left out, and becomes the limit.
-pub fn cut_last(
-    k: usize,
-    f: &[u64],
-    a: u64,
-    g: &mut [u64],
-    found: &mut [u64],
-    top: &mut [u64],
-    stock: Stock,
-) -> Stock
-    requires sizes { (k ≤ length f.now) × (k ≤ length top.old) × (length found.old * k ≤ length g.old) × (stock.count ≤ length found.old) × (1 ≤ stock.count) }
-    requires limit { Limited k g.old stock.count stock.cut top.old × (stock.cut ≡ true → less k 0 (at f.now) (at top.old)) }
-    ensures { Keeps k (at f.now) a g.old found.old stock.count stock.cut top.old g.new found.new result.count result.cut top.new }
+// The trade against the gathered ones where there is no room for more: the greatest of them and it is left out, and becomes the limit.
+pub fn cut_last(k: usize, trade: Trade, points: &mut [Trade], stock: Stock) -> Stock
+    requires sizes { (k ≤ 4) × (stock.count ≤ length points.old) × (1 ≤ stock.count) }
+    requires limit { Limited k points.old stock × Before k stock.limit (at trade.costs) }
+    ensures { Keeps k trade points.old stock points.new result }
 {
     let count = stock.count;
-    let j = greatest(k, &*g, count);
-    load(k, &*g, j * k, top);
-    if earlier(k, f, &*top) {
-        place(k, f, a, g, found, j);
+    let j = greatest(k, &points[..count]);
+    let last = points[j].costs;
+    if earlier(k, &trade.costs, &last) {
+        points[j] = trade;
         return Stock {
-            count: count,
-            cut: true,
+            count,
+            limit: Some(last),
         };
     }
-    load(k, f, 0, top);
     Stock {
-        count: count,
-        cut: true,
+        count,
+        limit: Some(trade.costs),
     }
 }
 
-// f in the place of a point that it weakly dominates, or in a new place; where there is no room for it, a limit.
-pub fn keep(
-    k: usize,
-    f: &[u64],
-    a: u64,
-    g: &mut [u64],
-    found: &mut [u64],
-    top: &mut [u64],
-    stock: Stock,
-) -> Stock
-    requires sizes { (k ≤ length f.now) × (k ≤ length top.old) × (length found.old * k ≤ length g.old) × (stock.count ≤ length found.old) × (1 ≤ length found.old) }
-    requires limit { Limited k g.old stock.count stock.cut top.old × (stock.cut ≡ true → less k 0 (at f.now) (at top.old)) }
-    ensures { Keeps k (at f.now) a g.old found.old stock.count stock.cut top.old g.new found.new result.count result.cut top.new }
+// The trade in the place of one that it weakly dominates, or in a new place; where there is no room for it, a limit.
+pub fn keep(k: usize, trade: Trade, points: &mut [Trade], stock: Stock) -> Stock
+    requires sizes { (k ≤ 4) × (stock.count ≤ length points.old) × (1 ≤ length points.old) }
+    requires limit { Limited k points.old stock × Before k stock.limit (at trade.costs) }
+    ensures { Keeps k trade points.old stock points.new result }
 {
     let count = stock.count;
-    let j = worse(k, f, &*g, count);
-    if j < count {
-        place(k, f, a, g, found, j);
+    if let Some(j) = worse(k, &trade.costs, &points[..count]) {
+        points[j] = trade;
         return stock;
     }
-    if count < found.len() {
-        place(k, f, a, g, found, count);
+    if count < points.len() {
+        points[count] = trade;
         return Stock {
             count: count + 1,
-            cut: stock.cut,
+            limit: stock.limit,
         };
     }
-    cut_last(k, f, a, g, found, top, stock)
+    cut_last(k, trade, points, stock)
 }

@@ -1,127 +1,64 @@
-// Vectors of k numbers: the one of a complete part, whether a point dominates one, which comes first, copying.
-ghost use Rattle.std.specs.Prelude.{◌≡◌, true, false, ℕ, ◌+◌, ◌-◌, ◌*◌, ◌<◌, ◌≤◌, length, get_or};
-ghost use Rattle.charging.specs.Rows.{Costs};
-ghost use Rattle.narrowing.specs.Parts.{of};
-ghost use Rattle.capping.specs.Caps.{vec, less, at, Free, Fresh};
-ghost use Rattle.seeking.specs.Stocks.{from, Same, Within};
+// Vectors of k costs: the one of a complete part, whether one dominates another, and which comes first.
+ghost use Rattle.std.specs.Prelude.{◌≡◌, true, false, ◌<◌, ◌≤◌, length};
+ghost use Rattle.charging.specs.Rows.{of};
+ghost use Rattle.capping.specs.Caps.{vec, less, at, Within, Fresh, Before};
+ghost use Rattle.seeking.specs.Stocks.{Same};
 
-use narrowing::Part;
+use capping::{Problem, Trade, Vector};
+use charging::Part;
 
 // The vector that is sure; that of a complete part is its own.
-pub fn price(n: usize, d: &[u64], dear: &[u8], k: usize, p: Part, lb: &mut [u64])
-    requires { ((i : ℕ) → i < k → Costs n d.now dear.now (i * n)) × (n ≤ 64) × (k ≤ length lb.old) }
-    ensures { Same k (at lb.new) (vec n d.now dear.now (of p)) }
+pub fn price(problem: &Problem<'_>, p: Part) -> Vector
+    ensures { Same problem.now.count (at result) (vec problem.now (of p)) }
 {
-    let mut i = 0;
-    while i < k {
-        lb[i] = charging::sure(n, d, dear, i * n, p.set, p.one);
-        i += 1;
+    let mut costs = [0; 4];
+    for i in 0..problem.count {
+        costs[i] = charging::sure(problem.costs_of(i), p);
     }
+    costs
 }
 
-// Whether the point at a leaves f alone.
-pub fn free(k: usize, f: &[u64], l: &[u64], a: usize) -> bool
-    requires { (k ≤ length f.now) × (a + k ≤ length l.now) }
-    ensures { (result ≡ true → Free k l.now a (at f.now)) × (result ≡ false → (i : ℕ) → i < k → get_or l.now (a + i) 0 ≤ get_or f.now i 0) }
+// Whether f is at most h in every place: f weakly dominates h.
+pub fn within(k: usize, f: &Vector, h: &Vector) -> bool
+    requires { k ≤ 4 }
+    ensures yes { result ≡ true → Within k (at f.now) (at h.now) }
+    ensures no { result ≡ false → Within k (at f.now) (at h.now) → ⊥ }
 {
-    let mut i = 0;
-    while i < k {
-        if f[i] < l[a + i] {
-            return true;
-        }
-        i += 1;
-    }
-    false
+    (0..k).all(|i| f[i] <= h[i])
 }
 
-// Whether none of m points weakly dominates f.
-pub fn fresh(k: usize, f: &[u64], l: &[u64], m: usize) -> bool
-    requires { (k ≤ length f.now) × (m * k ≤ length l.now) }
-    ensures { (result ≡ true → Fresh k l.now m (at f.now)) × (result ≡ false → Fresh k l.now m (at f.now) → ⊥) }
+// Whether none of the trades weakly dominates f.
+pub fn fresh(k: usize, f: &Vector, trades: &[Trade]) -> bool
+    requires { k ≤ 4 }
+    ensures yes { result ≡ true → Fresh k trades.now (length trades.now) (at f.now) }
+    ensures no { result ≡ false → Fresh k trades.now (length trades.now) (at f.now) → ⊥ }
 {
-    let mut q = 0;
-    while q < m {
-        let ok = free(k, f, l, q * k);
-        if !ok {
+    // Kept a loop: the contract of `all` or `any` left open which trade it was.
+    for trade in trades {
+        if within(k, &trade.costs, f) {
             return false;
         }
-        q += 1;
     }
     true
 }
 
-// Whether f is at most the point at a in every place.
-pub fn within(k: usize, f: &[u64], g: &[u64], a: usize) -> bool
-    requires { (k ≤ length f.now) × (a + k ≤ length g.now) }
-    ensures { result ≡ true → Within k (at f.now) (from g.now a) }
+// Whether f comes before h: by the first cost in which they differ.
+pub fn earlier(k: usize, f: &Vector, h: &Vector) -> bool
+    requires { k ≤ 4 }
+    ensures yes { result ≡ true → less k 0 (at f.now) (at h.now) }
+    ensures no { result ≡ false → less k 0 (at f.now) (at h.now) → ⊥ }
 {
-    let mut i = 0;
-    while i < k {
-        if g[a + i] < f[i] {
-            return false;
-        }
-        i += 1;
-    }
-    true
+    f[..k] < h[..k]
 }
 
-// Whether the vector at a in f comes before the one at b in g.
-pub fn earlier_at(k: usize, f: &[u64], a: usize, g: &[u64], b: usize) -> bool
-    requires { (a + k ≤ length f.now) × (b + k ≤ length g.now) }
-    ensures { (result ≡ true → less k 0 (from f.now a) (from g.now b)) × (result ≡ false → less k 0 (from f.now a) (from g.now b) → ⊥) }
+// Whether f comes before the limit, if there is one.
+pub fn before(k: usize, f: &Vector, limit: Option<Vector>) -> bool
+    requires { k ≤ 4 }
+    ensures yes { result ≡ true → Before k limit (at f.now) }
+    ensures no { result ≡ false → Before k limit (at f.now) → ⊥ }
 {
-    let mut j = 0;
-    while j < k {
-        if f[a + j] < g[b + j] {
-            return true;
-        }
-        if g[b + j] < f[a + j] {
-            return false;
-        }
-        j += 1;
-    }
-    false
-}
-
-// Whether f comes before g.
-pub fn earlier(k: usize, f: &[u64], g: &[u64]) -> bool
-    requires { (k ≤ length f.now) × (k ≤ length g.now) }
-    ensures { (result ≡ true → less k 0 (at f.now) (at g.now)) × (result ≡ false → less k 0 (at f.now) (at g.now) → ⊥) }
-{
-    earlier_at(k, f, 0, g, 0)
-}
-
-// Whether f comes before the limit g, if there is one.
-pub fn earlier_if(have: bool, k: usize, f: &[u64], g: &[u64]) -> bool
-    requires { (k ≤ length f.now) × (k ≤ length g.now) }
-    ensures { (result ≡ true → have ≡ true → less k 0 (at f.now) (at g.now)) × (result ≡ false → (have ≡ true) × (less k 0 (at f.now) (at g.now) → ⊥)) }
-{
-    if have {
-        return earlier(k, f, g);
-    }
-    true
-}
-
-// Copies the k numbers of g from a on to f.
-pub fn load(k: usize, g: &[u64], a: usize, f: &mut [u64])
-    requires { (a + k ≤ length g.now) × (k ≤ length f.old) }
-    ensures { Same k (at f.new) (from g.now a) }
-{
-    let mut i = 0;
-    while i < k {
-        f[i] = g[a + i];
-        i += 1;
-    }
-}
-
-// Copies f to the k places of g from a on.
-pub fn store(k: usize, f: &[u64], g: &mut [u64], a: usize)
-    requires { (k ≤ length f.now) × (a + k ≤ length g.old) }
-    ensures { Same k (from g.new a) (at f.now) × ((v : ℕ) → v < a → get_or g.new v 0 ≡ get_or g.old v 0) × ((v : ℕ) → a + k ≤ v → get_or g.new v 0 ≡ get_or g.old v 0) }
-{
-    let mut i = 0;
-    while i < k {
-        g[a + i] = f[i];
-        i += 1;
+    match limit {
+        Some(top) => earlier(k, f, &top),
+        None => true,
     }
 }

@@ -1,20 +1,37 @@
--- Charged bounds, then the limit, then the points, listed and gathered: each only lowers caps.
+-- Charged bounds, then the limit, then the trades, listed and gathered: each only lowers caps.
+use Prim.Native.Nat.{ℕ, ◌<◌, ◌^◌}
 use mathlib.Core.Path.{◌≡◌}
-use mathlib.Core.Bool.{true, false}
 use native.Mathlib.Omega.{arith}
-use Prim.Native.Nat.{ℕ}
-use Rattle.capping.specs.Caps.{less, at, Fresh, Sought}
-use Rattle.capping.proofs.CapLaws.{tight-then, tight-less, capped-low}
+use lib.ListN.{length, get_or, replicate}
+use Rattle.std.proofs.lemmas.List.{get_or-replicate}
+use Rattle.std.specs.Prelude.{None}
+use Rattle.capping.specs.declared.problems.Problem.{Problem}
+use Rattle.capping.specs.Caps.{Before, Seeks, Capped}
+use Rattle.capping.proofs.CapLaws.{capped-low, capped-listed, capped-gathered}
 use Rattle.capping.proofs.caps.Goals as goal
 
-pub returns-then-not-ok : goal.returns-then-not-ok
-returns-then-not-ok c = capped-low c.args.n c.args.start.now c.args.tv.now c.args.off.now c.args.w.now c.args.need.now c.args.d.now c.args.dear.now c.args.k c.args.p _ _ _ (Sought c.args.k c.args.l.now c.args.m c.args.g.now c.args.c c.args.have c.args.top.now) false c.requires.1 c.requires.0.terms.few c.charges.ensures (tight-less c.args.k _ _ _ (λ (f : ℕ → ℕ). (c.args.have ≡ true → less c.args.k 0 f (at c.args.top.now))) (Sought c.args.k c.args.l.now c.args.m c.args.g.now c.args.c c.args.have c.args.top.now) false (λ f h. h.0.0) (rw (c.if-not-ok.true) at c.ahead_if-ok.ensures))
+wide : (P : Problem) (i : ℕ) → i < P.count → get_or (replicate 4 1099511627776) i 0 ≡ 2 ^ 40
+wide P i l = get_or-replicate 4 i 1099511627776 0 (omega (arith, P.few))
 
-pub returns-then-not-fine : goal.returns-then-not-fine
-returns-then-not-fine c = capped-low c.args.n c.args.start.now c.args.tv.now c.args.off.now c.args.w.now c.args.need.now c.args.d.now c.args.dear.now c.args.k c.args.p _ _ _ (Sought c.args.k c.args.l.now c.args.m c.args.g.now c.args.c c.args.have c.args.top.now) false c.requires.1 c.requires.0.terms.few c.charges.ensures (tight-less c.args.k _ _ _ (λ (f : ℕ → ℕ). (c.args.have ≡ true → less c.args.k 0 f (at c.args.top.now)) × Fresh c.args.k c.args.l.now c.args.m f) (Sought c.args.k c.args.l.now c.args.m c.args.g.now c.args.c c.args.have c.args.top.now) false (λ f h. h.0) (tight-then c.args.k _ _ _ _ (λ (f : ℕ → ℕ). (c.args.have ≡ true → less c.args.k 0 f (at c.args.top.now))) (Fresh c.args.k c.args.l.now c.args.m) false (rw (c.if-not-ok.false) at c.ahead_if-ok.ensures) (rw (c.if-not-fine.true) at c.points-fine.ensures)))
+pub returns-in_err-cap : goal.returns-in_err-cap
+returns-in_err-cap c =
+    let P = c.args.problem.now in
+    let W = Seeks P c.args.listed.now c.args.gathered.now (length c.args.gathered.now) c.args.limit in
+    rw (c.from_residual.ensures, Capped)
+    (capped-low P c.args.p c.charges-low.result (replicate 4 1099511627776) (Before P.count c.args.limit) W None c.charges-low.ensures (wide P) (λ x u. (u.meets, u.sought.before))
+    c.in_err-cap.ensures)
 
-pub points-requires : goal.points-requires
-points-requires c = (omega (arith, c.requires.3, c.charges.auto), c.requires.6, omega (arith, c.requires.4, c.charges.auto, c.ahead_if-ok.auto, c.points-fine.auto))
+pub returns-in_err-cap-2 : goal.returns-in_err-cap-2
+returns-in_err-cap-2 c =
+    let P = c.args.problem.now in
+    let g = c.args.gathered.now in
+    rw (c.from_residual-in_err-cap-2.ensures, Capped)
+    (capped-listed P c.args.p c.args.listed.now g (length g) c.args.limit c.charges-low.result (replicate 4 1099511627776) c.in_ok-cap.cap c.charges-low.ensures (wide P)
+    c.in_ok-cap.ensures c.in_err-cap-2.ensures)
 
 pub returns : goal.returns
-returns c = capped-low c.args.n c.args.start.now c.args.tv.now c.args.off.now c.args.w.now c.args.need.now c.args.d.now c.args.dear.now c.args.k c.args.p _ _ _ (Sought c.args.k c.args.l.now c.args.m c.args.g.now c.args.c c.args.have c.args.top.now) c.points.result c.requires.1 c.requires.0.terms.few c.charges.ensures (tight-then c.args.k _ _ _ _ (λ (f : ℕ → ℕ). (c.args.have ≡ true → less c.args.k 0 f (at c.args.top.now)) × Fresh c.args.k c.args.l.now c.args.m f) (Fresh c.args.k c.args.g.now c.args.c) c.points.result (tight-then c.args.k _ _ _ _ (λ (f : ℕ → ℕ). (c.args.have ≡ true → less c.args.k 0 f (at c.args.top.now))) (Fresh c.args.k c.args.l.now c.args.m) true (rw (c.if-not-ok.false) at c.ahead_if-ok.ensures) (rw (c.if-not-fine.false) at c.points-fine.ensures)) c.points.ensures)
+returns c =
+    let P = c.args.problem.now in
+    let g = c.args.gathered.now in
+    capped-gathered P c.args.p c.args.listed.now g (length g) c.args.limit c.charges-low.result (replicate 4 1099511627776) c.in_ok-cap.cap c.charges-low.ensures (wide P)
+    c.in_ok-cap.ensures c.in_ok-cap-2.cap c.points-2.result c.in_ok-cap-2.ensures c.points-2.ensures

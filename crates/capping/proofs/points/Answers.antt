@@ -1,25 +1,22 @@
-use borrow.Author.Rules.{rules}
+use mathlib.Core.Path.{◌≡◌}
 use native.Mathlib.Omega.{arith}
-use mathlib.Core.Path.{◌≡◌, refl}
-use Prim.Native.Nat.{◌+◌}
-use Rattle.capping.specs.Caps.{Fresh}
-use Rattle.capping.proofs.CapLaws.{tight-same, tight-more, tight-off, row_in}
+use lib.ListN.{length}
+use Rattle.std.specs.Prelude.{Some, None}
+use Rattle.capping.specs.Caps.{Tight}
+use Rattle.capping.proofs.CapLaws.{tight-more, tight-off}
 use Rattle.capping.proofs.points.Goals as goal
 
-pub loop-q-init : goal.loop-q-init
-loop-q-init c = (omega arith, refl, tight-same c.args.k c.args.lb.now c.args.cap.now (Fresh c.args.k c.args.l.now 0))
+pub returns-in_err-cap : goal.returns-in_err-cap
+returns-in_err-cap c =
+    let k = c.args.k in
+    let low = c.args.low.now in
+    let l = c.loop-trade in
+    let more = tight-more k low c.args.cap l.cap c.args.trades.now l.trade-index None l.invariant c.in_err-cap.ensures in
+    rw (c.from_residual.ensures, Tight) (tight-off k low c.args.cap c.args.trades.now _ (length c.args.trades.now) (omega arith) more)
 
-pub overflow_mul-q : goal.overflow_mul-q
-overflow_mul-q c = let z = row_in c.loop-q.q c.args.m c.args.k (omega arith) in omega arith
-
-pub point-ok-requires : goal.point-ok-requires
-point-ok-requires c = let z = row_in c.loop-q.q c.args.m c.args.k (omega arith) in (c.requires.0, omega arith, omega (arith, c.loop-q.invariant.1))
-
-pub returns-then-not-ok : goal.returns-then-not-ok
-returns-then-not-ok c = let t = tight-more c.args.k c.args.lb.now c.args.cap.now c.loop-q.cap _ c.args.l.now c.loop-q.q c.point-ok.result c.loop-q.invariant.2 c.point-ok.ensures in tight-off c.args.k c.args.lb.now c.args.cap.now _ c.args.l.now (c.loop-q.q + 1) c.args.m (omega arith) (rw (c.if-not-ok.true) at t)
-
-pub loop-q-preserved : goal.loop-q-preserved
-loop-q-preserved c = let t = tight-more c.args.k c.args.lb.now c.args.cap.now c.loop-q.cap _ c.args.l.now c.loop-q.q c.point-ok.result c.loop-q.invariant.2 c.point-ok.ensures in (omega arith, search rules, rw (c.if-not-ok.false) at t)
+pub loop-trade-preserved : goal.loop-trade-preserved
+loop-trade-preserved c =
+    tight-more c.args.k c.args.low.now c.args.cap c.loop-trade.cap c.args.trades.now c.loop-trade.trade-index (Some c.in_ok-cap.cap) c.loop-trade.invariant c.in_ok-cap.ensures
 
 pub returns : goal.returns
-returns c = let e : c.loop-q.q ≡ c.args.m = omega arith in rw e at c.loop-q.invariant.2
+returns c = let e : c.loop-trade.trade-index ≡ length c.args.trades.now = omega arith in rw e at c.loop-trade.invariant

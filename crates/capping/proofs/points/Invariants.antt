@@ -1,14 +1,8 @@
--- One point after the other.
--- Invariant: the caps are tight for the first q points. Measure: m - q.
-use mathlib.Core.Path.{◌≡◌}
-use mathlib.Core.Bool.{true}
-use Prim.Native.Nat.{◌≤◌, ◌-◌}
-use lib.ListN.{length}
+-- One trade after the other.
+-- Invariant: the caps are tight for the trades so far.
+use Rattle.std.specs.Prelude.{Some}
 use Rattle.capping.specs.Caps.{Fresh, Tight}
 use Rattle.capping.proofs.points.Given as goal
 
-abbrev pub invariant-loop-q : goal.invariant-loop-q
-invariant-loop-q l = (l.q ≤ l.m) × (length l.cap ≡ length l.initial.cap) × Tight l.k l.lb l.initial.cap l.cap (Fresh l.k l.l l.q) true
-
-abbrev pub decreases-loop-q : goal.decreases-loop-q
-decreases-loop-q l = l.m - l.q
+abbrev pub invariant-loop-trade : goal.invariant-loop-trade
+invariant-loop-trade l = Tight l.k l.low l.initial.cap (Fresh l.k l.trades l.trade-index) (Some l.cap)

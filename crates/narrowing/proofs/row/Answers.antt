@@ -1,33 +1,27 @@
 use native.Mathlib.Omega.{arith}
-use Rattle.charging.specs.Rows.{Meets}
-use Rattle.narrowing.specs.Parts.{of}
+use mathlib.Core.Path.{◌≡◌, ap, ◌∙◌}
+use Prim.Native.Nat.{◌<◌, ◌+◌, ◌≤◌}
+use Rattle.charging.specs.Rows.{of, given}
+use Rattle.charging.specs.Meets.{Meets, need, left}
 use Rattle.charging.proofs.ChargeLaws.{hopeless}
-use Rattle.narrowing.proofs.PartLaws.{leads-refl, cuts-on, cuts-off, row_more}
+use Rattle.narrowing.specs.Parts.{Cuts}
+use Rattle.narrowing.proofs.PartLaws.{row_more}
 use Rattle.narrowing.proofs.row.Goals as goal
 
-pub overflow_sub-many : goal.overflow_sub-many
-overflow_sub-many c = let r = c.requires.0.rising c.args.h c.requires.2 in let z = c.requires.0.inside c.args.h c.requires.2 in omega arith
+pub returns-in_err-slack : goal.returns-in_err-slack
+returns-in_err-slack c =
+    let r = c.args.rows.now in
+    let h = c.args.h in
+    let top = rw c.terms_of-terms.ensures at c.reach.ensures in
+    let short : left r (of c.args.p) h < need r h = omega (arith, top, c.in_err-slack.ensures) in
+    rw (c.from_residual.ensures, Cuts) (hopeless r (of c.args.p) h c.requires.1 short)
 
-pub reach-top-requires : goal.reach-top-requires
-reach-top-requires c = let r = c.requires.0.rising c.args.h c.requires.2 in let z = c.requires.0.inside c.args.h c.requires.2 in (c.requires.0.terms, omega arith)
-
-pub returns-then-top-t : goal.returns-then-top-t
-returns-then-top-t c = let r = c.requires.0.rising c.args.h c.requires.2 in let z = c.requires.0.inside c.args.h c.requires.2 in cuts-off c.args.n (Meets c.args.start.now c.args.tv.now c.args.off.now c.args.w.now c.args.need.now) c.args.p c.requires.1 (hopeless c.args.n c.args.start.now c.args.tv.now c.args.off.now c.args.w.now c.args.need.now c.requires.0 (of c.args.p) c.args.h c.requires.2 (rw c.reach-top.ensures at c.if-top-t.true))
-
-pub loop-j-init : goal.loop-j-init
-loop-j-init c = let r = c.requires.0.rising c.args.h c.requires.2 in let z = c.requires.0.inside c.args.h c.requires.2 in (omega arith, leads-refl c.args.n (Meets c.args.start.now c.args.tv.now c.args.off.now c.args.w.now c.args.need.now) c.args.p c.requires.1)
-
-pub overflow_add-a : goal.overflow_add-a
-overflow_add-a c = let r = c.requires.0.rising c.args.h c.requires.2 in let z = c.requires.0.inside c.args.h c.requires.2 in omega arith
-
-pub push-q-requires : goal.push-q-requires
-push-q-requires c = let r = c.requires.0.rising c.args.h c.requires.2 in let z = c.requires.0.inside c.args.h c.requires.2 in (c.loop-j.invariant.1.good, c.requires.0.terms, omega arith)
-
-pub overflow_add-j : goal.overflow_add-j
-overflow_add-j c = let r = c.requires.0.rising c.args.h c.requires.2 in let z = c.requires.0.inside c.args.h c.requires.2 in omega (arith, c.requires.0.terms.short)
-
-pub loop-j-preserved : goal.loop-j-preserved
-loop-j-preserved c = let r = c.requires.0.rising c.args.h c.requires.2 in let z = c.requires.0.inside c.args.h c.requires.2 in (omega arith, row_more c.args.n c.args.start.now c.args.tv.now c.args.off.now c.args.w.now c.args.need.now c.requires.0 c.args.p c.loop-j.q c.push-q.result c.args.h c.loop-j.j _ c.requires.2 (omega arith) (omega arith) c.loop-j.invariant.1 c.push-q.ensures)
-
-pub returns : goal.returns
-returns c = let r = c.requires.0.rising c.args.h c.requires.2 in let z = c.requires.0.inside c.args.h c.requires.2 in cuts-on c.args.n (Meets c.args.start.now c.args.tv.now c.args.off.now c.args.w.now c.args.need.now) c.args.p c.loop-j.q c.loop-j.invariant.1
+pub loop-term-preserved : goal.loop-term-preserved
+loop-term-preserved c =
+    let r = c.args.rows.now in
+    let h = c.args.h in
+    let terms = c.terms_of-terms.ensures in
+    let top = rw terms at c.reach.ensures in
+    let room : left r (of c.args.p) h ≤ need r h + c.in_ok-slack.slack = omega (arith, top, c.in_ok-slack.ensures) in
+    row_more r c.args.p c.loop-term.q c.push-q.result h c.loop-term.term-index c.in_ok-slack.slack c.requires.1 (rw terms at c.loop-term-test.true) room
+    c.loop-term.invariant (rw terms at c.push-q.ensures)

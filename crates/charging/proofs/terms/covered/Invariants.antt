@@ -1,12 +1,8 @@
 -- The sum grows by what each term gives without a charge; once it is enough, the rest can only add to it.
--- Invariant: sum is the span of length j. Measure: many - j.
+-- Invariant: sum is the span of the terms so far.
 use mathlib.Core.Path.{◌≡◌}
-use Prim.Native.Nat.{◌≤◌, ◌-◌}
-use Rattle.charging.specs.Rows.{span, seen, spare_at}
+use Rattle.charging.specs.Rows.{span, of, spare_at}
 use Rattle.charging.proofs.terms.covered.Given as goal
 
-abbrev pub invariant-loop-j : goal.invariant-loop-j
-invariant-loop-j l = (l.j ≤ l.many) × (l.sum ≡ span (spare_at l.tv l.off l.w (seen l.set l.one) l.dear l.o l.res) l.a l.j)
-
-abbrev pub decreases-loop-j : goal.decreases-loop-j
-decreases-loop-j l = l.many - l.j
+abbrev pub invariant-loop-term : goal.invariant-loop-term
+invariant-loop-term l = l.sum ≡ span (spare_at l.terms (of l.p) l.costs l.res) 0 l.term-index

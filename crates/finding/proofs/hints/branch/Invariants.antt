@@ -1,19 +1,9 @@
 -- The first unset variable of the order; where it names none, a scan over all finds one or shows that none is.
--- Invariants: i is within the order; no variable below u is unset. Measures: what is left of each.
+-- Invariant: no variable so far is unset.
 use mathlib.Core.Path.{◌≡◌}
-use Prim.Native.Nat.{ℕ, ◌≤◌, ◌<◌, ◌-◌}
-use lib.ListN.{length}
-use Rattle.charging.specs.Rows.{seen}
+use Prim.Native.Nat.{ℕ, ◌<◌}
+use Rattle.charging.specs.Rows.{of}
 use Rattle.finding.proofs.hints.branch.Given as goal
 
-abbrev pub invariant-loop-i : goal.invariant-loop-i
-invariant-loop-i l = l.i ≤ length l.order
-
-abbrev pub decreases-loop-i : goal.decreases-loop-i
-decreases-loop-i l = length l.order - l.i
-
-abbrev pub invariant-loop-u : goal.invariant-loop-u
-invariant-loop-u l = (l.u ≤ l.n) × ((k : ℕ) → k < l.u → seen l.p.set l.p.one k ≡ 2 → ⊥)
-
-abbrev pub decreases-loop-u : goal.decreases-loop-u
-decreases-loop-u l = l.n - l.u
+abbrev pub invariant-loop-v : goal.invariant-loop-v
+invariant-loop-v l = (k : ℕ) → k < l.v → of l.p k ≡ 2 → ⊥

@@ -1,30 +1,29 @@
--- A complete part that meets the rows, is fresh of the listed and the gathered points and comes before the limit is kept; in all other cases
+-- A complete part that meets the rows, is fresh of the listed and the gathered trades and comes before the limit is kept; in all other cases
 -- nothing here is wanted.
-use native.Mathlib.Omega.{arith}
-use Rattle.seeking.proofs.SeekLaws.{leaf-unmet, leaf-stale, leaf-had, leaf-past, leaf-kept}
-use native.Mathlib.Nat.{mul-le-mul_right}
+use Rattle.capping.specs.Caps.{at}
+use Rattle.seeking.proofs.StockLaws.{fresh-back}
+use Rattle.seeking.proofs.SeekLaws.{leaf-stale, leaf-had, leaf-past, leaf-kept}
 use Rattle.seeking.proofs.leaves.leaf.Goals as goal
 
-pub returns-then-not-met : goal.returns-then-not-met
-returns-then-not-met c = leaf-unmet c.args.n c.args.start.now c.args.tv.now c.args.off.now c.args.w.now c.args.need.now c.args.d.now c.args.dear.now c.args.k c.args.l.now c.args.m c.args.q c.args.g.now c.args.found.now c.args.stock.count c.args.stock.cut c.args.top.now c.requires.held (rw (c.if-not-met.true) at c.met.ensures)
-
 pub returns-then-not-fresh : goal.returns-then-not-fresh
-returns-then-not-fresh c = leaf-stale c.args.n c.args.start.now c.args.tv.now c.args.off.now c.args.w.now c.args.need.now c.args.d.now c.args.dear.now c.args.k c.args.l.now c.args.m c.args.q c.args.g.now c.args.found.now c.args.stock.count c.args.stock.cut c.args.top.now c.requires.held c.requires.table.1.costs _ c.price.ensures (c.fresh.ensures.1 (c.if-not-fresh.true))
-
-pub fresh-requires-2 : goal.fresh-requires-2
-fresh-requires-2 c = let w = mul-le-mul_right c.args.k c.requires.held.room in (omega (arith, c.requires.table.1.lbs), omega (arith, c.requires.table.1.stocks))
+returns-then-not-fresh c =
+    let a = c.args in
+    leaf-stale a.problem.now a.listed.now a.q a.points.now a.stock c.requires.held (at c.price-costs.result) c.price-costs.ensures (c.fresh.ensures.no c.if-not-fresh.true)
 
 pub returns-then-not-fresh-2 : goal.returns-then-not-fresh-2
-returns-then-not-fresh-2 c = leaf-had c.args.n c.args.start.now c.args.tv.now c.args.off.now c.args.w.now c.args.need.now c.args.d.now c.args.dear.now c.args.k c.args.l.now c.args.m c.args.q c.args.g.now c.args.found.now c.args.stock.count c.args.stock.cut c.args.top.now c.requires.held c.requires.table.1.costs _ c.price.ensures (c.fresh-2.ensures.1 (c.if-not-fresh-2.true))
+returns-then-not-fresh-2 c =
+    let a = c.args in
+    let f = at c.price-costs.result in
+    leaf-had a.problem.now a.listed.now a.q a.points.now a.stock c.requires.held f c.price-costs.ensures
+    (λ fr. c.fresh-2.ensures.no c.if-not-fresh-2.true (fresh-back a.points.now a.stock.count c.requires.held.room a.problem.now.count f fr))
 
-pub earlier_if-requires : goal.earlier_if-requires
-earlier_if-requires c = let w = mul-le-mul_right c.args.k c.requires.held.room in (omega (arith, c.requires.table.1.lbs), c.requires.table.1.tops)
-
-pub returns-then-not-earlier_if : goal.returns-then-not-earlier_if
-returns-then-not-earlier_if c = let e = c.earlier_if.ensures.1 (c.if-not-earlier_if.true) in leaf-past c.args.n c.args.start.now c.args.tv.now c.args.off.now c.args.w.now c.args.need.now c.args.d.now c.args.dear.now c.args.k c.args.l.now c.args.m c.args.q c.args.g.now c.args.found.now c.args.stock.count c.args.stock.cut c.args.top.now c.requires.held c.requires.table.1.costs _ c.price.ensures e.0 e.1
-
-pub keep-requires : goal.keep-requires
-keep-requires c = let w = mul-le-mul_right c.args.k c.requires.held.room in record { sizes = (omega (arith, c.requires.table.1.lbs), c.requires.table.1.tops, c.requires.table.1.stocks, c.requires.held.room, c.requires.table.1.some); limit = (c.requires.held.limited, c.earlier_if.ensures.0 (c.if-not-earlier_if.false)) }
+pub returns-then-not-before : goal.returns-then-not-before
+returns-then-not-before c =
+    let a = c.args in
+    leaf-past a.problem.now a.listed.now a.q a.points.now a.stock c.requires.held (at c.price-costs.result) c.price-costs.ensures (c.before-2.ensures.no c.if-not-before.true)
 
 pub returns : goal.returns
-returns c = leaf-kept c.args.n c.args.start.now c.args.tv.now c.args.off.now c.args.w.now c.args.need.now c.args.d.now c.args.dear.now c.args.k c.args.l.now c.args.m c.args.q c.args.g.now c.args.found.now c.args.stock.count c.args.stock.cut c.args.top.now c.requires.held c.requires.table.1.costs _ c.price.ensures _ _ c.keep.result.count c.keep.result.cut _ c.requires.table.0 c.requires.table.3.fits c.requires.table.2 (c.met.ensures.yes (c.if-not-met.false)) (c.fresh.ensures.0 (c.if-not-fresh.false)) c.keep.ensures
+returns c =
+    let a = c.args in
+    leaf-kept a.problem.now a.listed.now a.q a.points.now a.stock c.requires.held c.price-costs.result _ c.keep.result c.price-costs.ensures
+    c.requires.part.1.fits c.requires.part.0 (c.met.ensures.yes c.if-not-met.false) (c.fresh.ensures.yes c.if-not-fresh.false) c.keep.ensures

@@ -1,18 +1,16 @@
 use native.Mathlib.Omega.{arith}
-use mathlib.Core.Path.{◌≡◌}
-use borrow.Author.Count.{below_none}
-use Rattle.capping.proofs.CapLaws.{row_in}
-use Rattle.seeking.proofs.StockLaws.{greatest-more}
+use Rattle.seeking.proofs.StockLaws.{greatest-new, greatest-old}
+use Rattle.seeking.proofs.stocks.greatest.Goals.{then-earlier, else-earlier}
 use Rattle.seeking.proofs.stocks.greatest.Goals as goal
 
-pub loop-j-init : goal.loop-j-init
-loop-j-init c = (omega arith, λ z. absurd (omega arith), omega arith, below_none _)
-
-pub later_of-best-requires : goal.later_of-best-requires
-later_of-best-requires c = let r = row_in c.loop-j.j c.args.c c.args.k (omega arith) in let q = row_in c.loop-j.best c.args.c c.args.k (omega (arith, c.loop-j.invariant.2)) in (omega arith, omega arith)
-
 pub loop-j-preserved : goal.loop-j-preserved
-loop-j-preserved c = let r = greatest-more c.args.k c.args.g.now c.loop-j.j c.loop-j.best c.later_of-best.result c.loop-j.invariant.2 c.loop-j.invariant.3 c.later_of-best.ensures in (omega arith, λ _. omega (arith, r.0), omega (arith, r.0), r.1)
-
-pub returns : goal.returns
-returns c = let e : c.loop-j.j ≡ c.args.c = omega arith in (λ z. omega (arith, c.loop-j.invariant.1 (omega arith)), λ u z. c.loop-j.invariant.3 u (omega arith))
+loop-j-preserved c =
+    let k = c.args.k in
+    let ts = c.args.trades.now in
+    let j = c.loop-j.j in
+    let b = c.loop-j.best in
+    let old = c.loop-j.invariant in
+    elim c.if-earlier.branch [
+      | then-earlier w ↦ rw w.best-is (c.loop-j-test.true, greatest-new k ts j b old.1 (c.earlier.ensures.yes w.if-earlier.true))
+      | else-earlier w ↦ rw w.best-is (old.0, greatest-old k ts j b old.1 (c.earlier.ensures.no w.if-earlier.false))
+    ]

@@ -1,11 +1,9 @@
--- Point after point, the later of the best so far and the next.
--- Invariant: best is a greatest of the first j points. Measure: c - j.
-use Prim.Native.Nat.{◌≤◌, ◌<◌, ◌-◌}
+-- Trade after trade, the later of the best so far and the next.
+-- Invariant: best is a greatest of the trades so far.
+use Prim.Native.Nat.{◌<◌}
+use lib.ListN.{length}
 use Rattle.seeking.specs.Stocks.{Greatest}
 use Rattle.seeking.proofs.stocks.greatest.Given as goal
 
 abbrev pub invariant-loop-j : goal.invariant-loop-j
-invariant-loop-j l = (l.j ≤ l.c) × (1 ≤ l.j → l.best < l.j) × (l.best ≤ l.j) × Greatest l.k l.g l.j l.best
-
-abbrev pub decreases-loop-j : goal.decreases-loop-j
-decreases-loop-j l = l.c - l.j
+invariant-loop-j l = (l.best < length l.trades) × Greatest l.k l.trades l.j l.best

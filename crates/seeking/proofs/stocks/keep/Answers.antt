@@ -1,19 +1,23 @@
--- A point that f weakly dominates makes room for f, or there is room; else cut_last.
+-- A trade that this one weakly dominates makes room for it, or there is room; else cut_last.
 use native.Mathlib.Omega.{arith}
+use mathlib.Core.Path.{refl}
 use Prim.Native.Nat.{◌+◌}
+use lib.ListN.{length-set}
 use Rattle.capping.specs.Caps.{at}
-use Rattle.seeking.proofs.StockLaws.{keeps_placed}
-use native.Mathlib.Nat.{mul-le-mul_right}
+use Rattle.seeking.proofs.StockLaws.{worse-front, keeps_placed}
 use Rattle.seeking.proofs.stocks.keep.Goals as goal
 
-pub worse-j-requires : goal.worse-j-requires
-worse-j-requires c = let w = mul-le-mul_right c.args.k c.requires.sizes.3 in (c.requires.sizes.0, omega (arith, c.requires.sizes.2))
+pub returns-in-Some : goal.returns-in-Some
+returns-in-Some c =
+    let a = c.args in
+    let room = c.requires.sizes.1 in
+    let w = worse-front a.points.now a.stock.count room a.k c.in-Some.j (at a.trade.costs) c.in-Some.ensures.0 c.in-Some.ensures.1 in
+    keeps_placed a.k a.trade a.points.now c.in-Some.j (omega (arith, w.0)) a.stock a.stock refl (simp length-set room) (omega arith) w.0 (λ u z e. z) (λ _. w.1)
+    c.requires.limit.0 c.requires.limit.1
 
-pub returns-then-j-count : goal.returns-then-j-count
-returns-then-j-count c = let w = mul-le-mul_right c.args.k c.requires.sizes.3 in keeps_placed c.args.k (at c.args.f.now) c.args.a c.args.g.now c.args.found.now c.worse-j.result _ _ c.place.ensures c.args.stock.count c.args.stock.count c.args.stock.cut c.args.top.now (omega (arith, c.requires.sizes.3, c.place.auto)) (omega arith) c.if-j-count.true (λ u l _. l) c.worse-j.ensures.1 c.requires.limit.0 c.requires.limit.1
-
-pub returns-then-count-found : goal.returns-then-count-found
-returns-then-count-found c = let w = mul-le-mul_right c.args.k c.requires.sizes.3 in keeps_placed c.args.k (at c.args.f.now) c.args.a c.args.g.now c.args.found.now c.args.stock.count _ _ c.place-then-count-found.ensures c.args.stock.count (c.args.stock.count + 1) c.args.stock.cut c.args.top.now (omega (arith, c.if-count-found.true, c.place-then-count-found.auto)) (omega arith) (omega arith) (λ u l e. omega (arith, l, e)) (λ q. absurd (omega (arith, q))) c.requires.limit.0 c.requires.limit.1
-
-pub cut_last-requires : goal.cut_last-requires
-cut_last-requires c = let w = mul-le-mul_right c.args.k c.requires.sizes.3 in record { sizes = (c.requires.sizes.0, c.requires.sizes.1, c.requires.sizes.2, c.requires.sizes.3, omega (arith, c.if-count-found.false, c.requires.sizes.4)); limit = c.requires.limit }
+pub returns-then-count-points : goal.returns-then-count-points
+returns-then-count-points c =
+    let a = c.args in
+    let count = a.stock.count in
+    keeps_placed a.k a.trade a.points.now count c.if-count-points.true a.stock (record { count = count + 1; limit = a.stock.limit }) refl
+    (simp length-set (omega arith)) (omega arith) (omega arith) (λ u z e. omega (arith, z, e)) (λ q. absurd (omega (arith, q))) c.requires.limit.0 c.requires.limit.1

@@ -1,9 +1,10 @@
--- As earlier_at, at the places from 0 on.
-use mathlib.Core.Path.{sym}
-use Rattle.capping.specs.Caps.{at}
-use Rattle.seeking.specs.Stocks.{from}
-use Rattle.seeking.proofs.StockLaws.{from_zero, lex-both}
+-- The first k costs as slices, which compare in order.
+use native.Mathlib.Omega.{arith}
+use Rattle.seeking.proofs.SliceLaws.{slice-yes, slice-no}
 use Rattle.seeking.proofs.vectors.earlier.Goals as goal
 
-pub returns : goal.returns
-returns c = (λ z. lex-both c.args.k (from c.args.f.now 0) (at c.args.f.now) (from c.args.g.now 0) (at c.args.g.now) (from_zero c.args.k c.args.f.now) (from_zero c.args.k c.args.g.now) (c.earlier_at.ensures.0 z), λ z h. c.earlier_at.ensures.1 z (lex-both c.args.k (at c.args.f.now) (from c.args.f.now 0) (at c.args.g.now) (from c.args.g.now 0) (λ i z. sym (from_zero c.args.k c.args.f.now i z)) (λ i z. sym (from_zero c.args.k c.args.g.now i z)) h))
+pub returns-clause-yes : goal.returns-clause-yes
+returns-clause-yes c = slice-yes c.args.k c.args.f.now c.args.h.now (omega arith) (omega arith) c.lt.result c.lt.ensures
+
+pub returns-clause-no : goal.returns-clause-no
+returns-clause-no c = slice-no c.args.k c.args.f.now c.args.h.now (omega arith) (omega arith) c.lt.result c.lt.ensures

@@ -1,11 +1,7 @@
--- One point after the other.
--- Invariant: the first q points leave f alone. Measure: m - q.
-use Prim.Native.Nat.{◌≤◌, ◌-◌}
+-- One trade after the other.
+-- Invariant: the trades so far leave f alone.
 use Rattle.capping.specs.Caps.{at, Fresh}
 use Rattle.seeking.proofs.vectors.fresh.Given as goal
 
-abbrev pub invariant-loop-q : goal.invariant-loop-q
-invariant-loop-q l = (l.q ≤ l.m) × Fresh l.k l.l l.q (at l.f)
-
-abbrev pub decreases-loop-q : goal.decreases-loop-q
-decreases-loop-q l = l.m - l.q
+abbrev pub invariant-loop-trade : goal.invariant-loop-trade
+invariant-loop-trade l = Fresh l.k l.trades l.trade-index (at l.f)

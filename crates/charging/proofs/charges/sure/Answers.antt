@@ -1,0 +1,31 @@
+use mathlib.Core.Path.{◌≡◌, sym, ap, ◌∙◌}
+use Prim.Native.Nat.{ℕ, ◌≤◌, ◌<◌, ◌^◌}
+use native.Mathlib.Omega.{arith}
+use lib.ListN.{length}
+use Rattle.charging.specs.Rows.{hit, span, of, gap, dear}
+use Rattle.charging.proofs.SumLaws.{sum_none, sum_more, span-le, hit-le}
+use Rattle.charging.proofs.charges.sure.Goals as goal
+
+pub loop-v-init : goal.loop-v-init
+loop-v-init c = sym (sum_none _)
+
+pub overflow_add-sum : goal.overflow_add-sum
+overflow_add-sum c =
+    let cs = c.args.costs.now in
+    let f : ℕ → ℕ = λ (v : ℕ). hit (of c.args.p v) (dear cs v) (gap cs v) in
+    let low : (k : ℕ) → k < length cs → f k ≤ 2 ^ 34 = λ k l. omega (arith, hit-le (of c.args.p k) (dear cs k) (gap cs k), c.requires.0.small k l) in
+    let up = span-le f c.loop-v.v (2 ^ 34) (λ k l. low k (omega arith)) in
+    let z = low c.loop-v.v (omega arith) in
+    rw (c.charged-sum.ensures, c.look.ensures) (omega arith)
+
+pub loop-v-preserved : goal.loop-v-preserved
+loop-v-preserved c = rw (sum_more, ← c.look.ensures) (omega arith)
+
+pub returns : goal.returns
+returns c =
+    let cs = c.args.costs.now in
+    let f : ℕ → ℕ = λ (v : ℕ). hit (of c.args.p v) (dear cs v) (gap cs v) in
+    let e : c.loop-v.v ≡ length cs = omega arith in
+    let up = span-le f (length cs) (2 ^ 34) (λ k l. omega (arith, hit-le (of c.args.p k) (dear cs k) (gap cs k), c.requires.0.small k l)) in
+    let s : c.loop-v.sum ≡ span f 0 (length cs) = c.loop-v.invariant ∙ ap (λ (i : ℕ). span f 0 i) e in
+    (s, omega arith)
