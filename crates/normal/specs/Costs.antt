@@ -1,7 +1,8 @@
 -- Objectives in natural numbers: what each variable costs on each side, and then on its dear side alone.
 use Rattle.std.specs.Prelude.{◌≡◌, false, cond, List, ℕ, ◌+◌, ◌-◌, ◌*◌, ◌≤◌, ◌<◌, min, ltb, ℤ, length, get_or, ◌≤ℤ◌}
-use Rattle.charging.specs.Rows.{span, bit, cost}
-use Rattle.instance.specs.Limits.{max_coef, max_bound}
+use Rattle.charging.specs.declared.rows.Cost.{Cost}
+use Rattle.charging.specs.Rows.{no_cost, span, bit, cost, Costs, costs_of}
+use Rattle.instance.specs.Limits.{max_coef}
 use Rattle.instance.specs.Terms.{sum}
 use Rattle.instance.specs.Meaning.{entry_at}
 use Rattle.normal.specs.Halves.{gives_all}
@@ -31,36 +32,26 @@ gap_of zero-side one_side = cond (ltb zero-side one_side) (one_side - zero-side)
 abbrev pub dear_of : ℕ → ℕ → ℕ
 dear_of zero-side one_side = cond (ltb zero-side one_side) 1 0
 
--- The first j variables of an objective, whose numbers begin at o, have the gaps and dear sides of the run of sides; below o all is as found.
-pub record Settled (o j : ℕ) (sides d₀ d dear₀ dear : List ℕ) : Type 0 where
-  pub gaps_same : length d ≡ length d₀
-  pub dear_same : length dear ≡ length dear₀
-  pub gaps : (v : ℕ) → v < j → get_or d (o + v) 0 ≡ gap_of (get_or sides (v * 2) 0) (get_or sides (v * 2 + 1) 0)
-  pub dears : (v : ℕ) → v < j → get_or dear (o + v) 0 ≡ dear_of (get_or sides (v * 2) 0) (get_or sides (v * 2 + 1) 0)
-  pub gaps_below : (i : ℕ) → i < o → get_or d i 0 ≡ get_or d₀ i 0
-  pub dears_below : (i : ℕ) → i < o → get_or dear i 0 ≡ get_or dear₀ i 0
+-- A variable's cost by what its sides cost.
+abbrev pub cost_of : ℕ → ℕ → Cost
+cost_of zero-side one_side = record { gap = gap_of zero-side one_side; dear = dear_of zero-side one_side }
+
+-- The n variables have the costs of the run of sides.
+pub record Settled (n : ℕ) (sides : List ℕ) (costs : List Cost) : Type 0 where
+  pub long : length costs ≡ n
+  pub each : (v : ℕ) → v < n → get_or costs v no_cost ≡ cost_of (get_or sides (v * 2) 0) (get_or sides (v * 2 + 1) 0)
 
 -- The value of objective i, counted from 0.
 abbrev pub value_of : List ℤ → List ℤ → ℕ → ℕ → ℤ
 value_of ts rs i a = sum (entry_at ts rs i).terms a
 
--- Objective i has its n numbers from i * n on, and its costs have the order of its values.
-pub record Priced (ts rs : List ℤ) (n i : ℕ) (d dear : List ℕ) : Type 0 where
-  pub small : (v : ℕ) → v < n → get_or d (i * n + v) 0 ≤ max_bound
-  pub two : (v : ℕ) → v < n → get_or dear (i * n + v) 0 < 2
-  pub cost_le : (a b : ℕ) → value_of ts rs i a ≤ℤ value_of ts rs i b → cost n d dear (i * n) (bit a) ≤ cost n d dear (i * n) (bit b)
-  pub value_le : (a b : ℕ) → cost n d dear (i * n) (bit a) ≤ cost n d dear (i * n) (bit b) → value_of ts rs i a ≤ℤ value_of ts rs i b
+-- Objective i is laid out: its costs have the order of its values.
+pub record Priced (ts rs : List ℤ) (n i : ℕ) (costs : List Cost) : Type 0 where
+  pub are : Costs n costs
+  pub cost_le : (a b : ℕ) → value_of ts rs i a ≤ℤ value_of ts rs i b → cost costs (bit a) ≤ cost costs (bit b)
+  pub value_le : (a b : ℕ) → cost costs (bit a) ≤ cost costs (bit b) → value_of ts rs i a ≤ℤ value_of ts rs i b
 
--- Objective i is laid out; before its numbers all is as found.
-pub record PricedOne (ts rs : List ℤ) (n i : ℕ) (d₀ d dear₀ dear : List ℕ) : Type 0 where
-  pub gaps_same : length d ≡ length d₀
-  pub dear_same : length dear ≡ length dear₀
-  pub gaps_below : (j : ℕ) → j < i * n → get_or d j 0 ≡ get_or d₀ j 0
-  pub dears_below : (j : ℕ) → j < i * n → get_or dear j 0 ≡ get_or dear₀ j 0
-  pub priced : Priced ts rs n i d dear
-
--- The first `count` objectives are laid out.
-pub record PricedAll (ts rs : List ℤ) (n count : ℕ) (d₀ d dear₀ dear : List ℕ) : Type 0 where
-  pub gaps_same : length d ≡ length d₀
-  pub dear_same : length dear ≡ length dear₀
-  pub each : (i : ℕ) → i < count → Priced ts rs n i d dear
+-- The first `count` objectives are laid out, the n costs of each one after the other.
+pub record PricedAll (ts rs : List ℤ) (n count : ℕ) (costs : List Cost) : Type 0 where
+  pub long : count * n ≤ length costs
+  pub each : (i : ℕ) → i < count → Priced ts rs n i (costs_of n costs i)

@@ -1,5 +1,6 @@
 -- Runs that grow by half rows.
 use Rattle.std.specs.Prelude.{◌≡◌, Bool, true, false, not, List, [], ◌∷◌, ◌++◌, ℕ, ◌+◌, ◌≤◌, eqb, length}
+use Rattle.charging.specs.declared.rows.Term.{Term}
 use Rattle.instance.specs.Rows.{Entry}
 use Rattle.normal.specs.Halves.{halves_of, need_of}
 use Rattle.normal.specs.Rows.{HalfRow, all_halves, Laid}
@@ -18,15 +19,13 @@ abbrev pub half_rows_of : Entry → List HalfRow
 half_rows_of e = if_wanted (not (eqb e.kind 3)) (half_row false e) ++ if_wanted (not (eqb e.kind 2)) (half_row true e)
 
 -- Half rows more are laid out, whatever stood before them; the runs keep their lengths.
-pub record Grown (rs : List HalfRow) (starts starts' vs vs' os os' ws ws' needs needs' : List ℕ) (halves used halves' used' : ℕ) : Type 0 where
+pub record Grown (rs : List HalfRow) (starts starts' : List ℕ) (laid laid' : List Term) (needs needs' : List ℕ) (halves used halves' used' : ℕ) : Type 0 where
   pub starts_same : length starts' ≡ length starts
-  pub variables_same : length vs' ≡ length vs
-  pub offs_same : length os' ≡ length os
-  pub weights_same : length ws' ≡ length ws
+  pub laid_same : length laid' ≡ length laid
   pub needs_same : length needs' ≡ length needs
   pub halves_more : halves' ≡ halves + length rs
   pub used_more : used' ≡ used + length (all_halves rs)
-  pub more : (hs : List HalfRow) → Laid hs starts vs os ws needs halves used → Laid (hs ++ rs) starts' vs' os' ws' needs' halves' used'
+  pub more : (hs : List HalfRow) → Laid hs starts laid needs halves used → Laid (hs ++ rs) starts' laid' needs' halves' used'
 
 -- The half rows of rows, in order.
 unfoldable pub half_rows_all : List Entry → List HalfRow
@@ -34,9 +33,7 @@ half_rows_all [] = []
 half_rows_all (e ∷ es) = half_rows_of e ++ half_rows_all es
 
 -- The runs have room for `halves` half rows and `used` terms of them.
-pub record Rooms (starts vs os ws needs : List ℕ) (halves used : ℕ) : Type 0 where
+pub record Rooms (starts : List ℕ) (laid : List Term) (needs : List ℕ) (halves used : ℕ) : Type 0 where
   pub starts_room : halves + 1 ≤ length starts
-  pub variables_room : used ≤ length vs
-  pub offs_room : used ≤ length os
-  pub weights_room : used ≤ length ws
+  pub laid_room : used ≤ length laid
   pub needs_room : halves ≤ length needs

@@ -27,9 +27,7 @@ off_side (negsuc n) false = 1
 -- A term of a row as a term of a half row: a negative coefficient's size is added to both sides.
 abbrev pub half_of : Bool → Term → Half
 half_of turn t = record {
-  variable = nat_abs t.lit - 1;
-  off = off_side t.lit (is_negative turn t.coef);
-  weight = nat_abs t.coef;
+  term = record { weight = nat_abs t.coef; variable = nat_abs t.lit - 1; off = off_side t.lit (is_negative turn t.coef) };
   lost = cond (is_negative turn t.coef) (nat_abs t.coef) 0;
 }
 
@@ -39,7 +37,7 @@ bit_of a j = (a / 2 ^ j) % 2
 
 -- What a term of a half row gives.
 abbrev pub gives : Half → ℕ → ℕ
-gives h a = cond (eqb (bit_of a h.variable) h.off) 0 h.weight
+gives h a = cond (eqb (bit_of a h.term.variable) h.term.off) 0 h.term.weight
 
 -- What all give, and what was added for all.
 unfoldable pub gives_all : List Half → ℕ → ℕ

@@ -2,200 +2,118 @@
 // they give nothing; so, where it is met, what is withheld is at most its weight less its need. That is a cost with a cap, and charging it
 // decides, say, rows that each ask for a site against a row that allows few. The sum of half rows is a half row too: what they withhold
 // together is at most the sum of what each may.
-ghost use Rattle.std.specs.Prelude.{List, ℕ, ◌+◌, ◌*◌, ◌^◌, ◌≤◌, ◌<◌, length, get_or};
-ghost use Rattle.charging.specs.Rows.{Table};
-ghost use Rattle.instance.specs.Limits.{max_coef, max_terms};
-ghost use Rattle.normal.specs.Ceilings.{Heaps, CeilingOne, CeilingAll};
+ghost use Rattle.std.specs.Prelude.{List, ℕ, ◌*◌, ◌^◌, ◌≤◌, ◌<◌, length, get_or, take};
+ghost use Rattle.charging.specs.declared.rows.Cost.{Cost as CostOf};
+ghost use Rattle.charging.specs.Meets.{count, Ceiled};
+ghost use Rattle.normal.specs.Ceilings.{Narrow, Heaps, Ceiling, CeilingIf, CeilingAll};
 
-use crate::fill::Filled;
+use crate::costs::MAX_SIDES;
 use crate::heaps::{heap_row, lay_heap, weight_of};
+use charging::{Cost, Rows};
 
-// A ceiling: how many terms a half row must have to be one, and how many ceilings are laid out at most.
-#[derive(Drop)]
-pub struct Ceiling {
-    pub count: usize,
-}
+// How many ceilings are laid out at most.
+pub const MAX_CEILINGS: usize = 4;
 
-impl Ceiling {
-    pub const MIN_TERMS: usize = 8;
+// How many terms a half row must have to be a ceiling, and to be one of the sum.
+const MIN_TERMS: usize = 8;
+const SUM_TERMS: usize = 3;
 
-    // How many terms a half row must have to be one of the sum.
-    pub const SUM_TERMS: usize = 3;
-
-    pub const MAX_COUNT: usize = 4;
-}
-
-// Lays half row h out as ceiling i.
-fn lay_ceiling(
-    n: usize,
-    starts: &[usize],
-    variables: &[usize],
-    offs: &[u8],
-    weights: &[u64],
-    needs: &[u64],
-    h: usize,
-    i: usize,
-    gaps: &mut [u64],
-    dears: &mut [u8],
-    caps: &mut [u64],
-)
-    requires table { Table n starts.now variables.now offs.now weights.now needs.now }
-    requires variables_len_bound { (length variables.now ≤ max_terms + max_terms) × ((k : ℕ) → get_or weights.now k 0 ≤ max_coef) }
-    requires h_in_bounds { (h < length needs.now) × (i * n + n ≤ length gaps.old) × (i * n + n ≤ length dears.old) × (i < length caps.old) }
-    ensures { CeilingOne n starts.now variables.now offs.now weights.now needs.now i gaps.old gaps.new dears.old dears.new caps.old caps.new }
+// Whether half row h is tight: it has so many terms at least, and must reach more than half of what it weighs.
+fn is_tight(rows: &Rows<'_>, h: usize, least: usize) -> bool
+    requires narrow { Narrow rows.now }
+    requires h_in_bounds { h < count rows.now }
 {
-    let mut sides = [0u64; Filled::SIDES];
-    let slack = heap_row(n, starts, variables, offs, weights, needs, h, &mut sides);
-    lay_heap(n, &sides, slack, i, gaps, dears, caps);
+    let terms = rows.terms_of(h);
+    let weight = weight_of(terms);
+    let need = rows.needs[h];
+    least <= terms.len() && need <= weight && weight - need < need
 }
 
-// Whether a half row is tight: it has so many terms at least, and must reach more than half of what it weighs.
-fn is_tight(terms: usize, many: usize, weight: u64, need: u64) -> bool {
-    if many < terms {
-        return false;
-    }
-    if weight < need {
-        return false;
-    }
-    weight - need < need
+// Lays half row h out as a ceiling, and answers its cap.
+fn lay_ceiling(rows: &Rows<'_>, h: usize, costs: &mut [Cost]) -> u64
+    requires narrow { Narrow rows.now }
+    requires h_in_bounds { (h < count rows.now) × (length costs.old ≡ rows.now.n) }
+    ensures { Ceiling rows.now costs.new result }
+{
+    let mut sides = [0u64; MAX_SIDES];
+    let slack = heap_row(rows, h, &mut sides);
+    lay_heap(&sides, slack, costs)
 }
 
 // Lays half row h out as one more ceiling, if it is tight and there is room; answers how many there are then.
-fn lay_if(
-    n: usize,
-    starts: &[usize],
-    variables: &[usize],
-    offs: &[u8],
-    weights: &[u64],
-    needs: &[u64],
-    h: usize,
-    count: usize,
-    gaps: &mut [u64],
-    dears: &mut [u8],
-    caps: &mut [u64],
-) -> usize
-    requires table { Table n starts.now variables.now offs.now weights.now needs.now }
-    requires variables_len_bound { (length variables.now ≤ max_terms + max_terms) × ((k : ℕ) → get_or weights.now k 0 ≤ max_coef) }
-    requires h_in_bounds { (h < length needs.now) × (count ≤ 4) × (4 * n ≤ length gaps.old) × (4 * n ≤ length dears.old) × (4 ≤ length caps.old) }
-    ensures { (result ≤ 4) × ((d dear c : List ℕ) → CeilingAll n starts.now variables.now offs.now weights.now needs.now count d gaps.old dear dears.old c caps.old → CeilingAll n starts.now variables.now offs.now weights.now needs.now result d gaps.new dear dears.new c caps.new) }
+fn lay_if(rows: &Rows<'_>, h: usize, count: usize, costs: &mut [Cost], caps: &mut [u64]) -> usize
+    requires narrow { Narrow rows.now }
+    requires h_in_bounds { (h < count rows.now) × (count ≤ 4) × (4 * rows.now.n ≤ length costs.old) × (4 ≤ length caps.old) }
+    requires all { CeilingAll rows.now count costs.old caps.old }
+    ensures { (result ≤ 4) × CeilingAll rows.now result costs.new caps.new }
 {
-    if Ceiling::MAX_COUNT <= count {
+    if MAX_CEILINGS <= count {
         return count;
     }
-    let a = starts[h];
-    let many = starts[h + 1] - a;
-    if !is_tight(
-        Ceiling::MIN_TERMS,
-        many,
-        weight_of(weights, a, many),
-        needs[h],
-    ) {
+    if !is_tight(rows, h, MIN_TERMS) {
         return count;
     }
-    lay_ceiling(
-        n, starts, variables, offs, weights, needs, h, count, gaps, dears, caps,
-    );
+    let from = count * rows.n;
+    caps[count] = lay_ceiling(rows, h, &mut costs[from..from + rows.n]);
     count + 1
 }
 
 // Adds what half row h withholds to the sides, if it is tight; answers how much that is at most, 0 where it is not tight.
-fn heap_if(
-    n: usize,
-    starts: &[usize],
-    variables: &[usize],
-    offs: &[u8],
-    weights: &[u64],
-    needs: &[u64],
-    h: usize,
-    sides: &mut [u64],
-) -> u64
-    requires table { Table n starts.now variables.now offs.now weights.now needs.now }
-    requires variables_len_bound { (length variables.now ≤ max_terms + max_terms) × ((k : ℕ) → get_or weights.now k 0 ≤ max_coef) }
-    requires h_in_bounds { (h < length needs.now) × (n * 2 ≤ length sides.old) × ((i : ℕ) → get_or sides.old i 0 ≤ 2 ^ 40) }
-    ensures { Heaps n starts.now variables.now offs.now weights.now needs.now h sides.old sides.new result }
+fn heap_if(rows: &Rows<'_>, h: usize, sides: &mut [u64]) -> u64
+    requires narrow { Narrow rows.now }
+    requires h_in_bounds { (h < count rows.now) × (rows.now.n * 2 ≤ length sides.old) × ((i : ℕ) → get_or sides.old i 0 ≤ 2 ^ 40) }
+    ensures { Heaps rows.now h sides.old sides.new result }
 {
-    let a = starts[h];
-    let many = starts[h + 1] - a;
-    if !is_tight(
-        Ceiling::SUM_TERMS,
-        many,
-        weight_of(weights, a, many),
-        needs[h],
-    ) {
+    if !is_tight(rows, h, SUM_TERMS) {
         return 0;
     }
-    heap_row(n, starts, variables, offs, weights, needs, h, sides)
+    heap_row(rows, h, sides)
 }
 
-// 1 where a is at least b, else 0.
-fn reaches(a: u64, b: u64) -> u64
-    ensures { result ≤ 1 }
+// Lays the sum of the tight half rows out as a ceiling, and answers its cap where it is the sum of two or more. It decides, say, more things than
+// places, one thing in a place.
+fn lay_sum(rows: &Rows<'_>, costs: &mut [Cost]) -> Option<u64>
+    requires narrow { Narrow rows.now }
+    requires n_value { length costs.old ≡ rows.now.n }
+    ensures { CeilingIf rows.now costs.new result }
 {
-    if a < b {
-        return 0;
+    let mut sides = [0u64; MAX_SIDES];
+    let mut slack: u64 = 0;
+    let mut summed: usize = 0;
+    for h in 0..rows.needs.len() {
+        let more = heap_if(rows, h, &mut sides);
+        slack += more;
+        summed += usize::from(0 < more);
     }
+    let cap = lay_heap(&sides, slack, costs);
+    if summed < 2 {
+        return None;
+    }
+    Some(cap)
+}
+
+// Lays the sum of the tight half rows out as the first ceiling, if it is one; answers how many there are then.
+fn lay_first(rows: &Rows<'_>, costs: &mut [Cost], caps: &mut [u64]) -> usize
+    requires narrow { Narrow rows.now }
+    requires n_in_bounds { (4 * rows.now.n ≤ length costs.old) × (4 ≤ length caps.old) }
+    ensures { (result ≤ 1) × CeilingAll rows.now result costs.new caps.new }
+{
+    let Some(cap) = lay_sum(rows, &mut costs[..rows.n]) else {
+        return 0;
+    };
+    caps[0] = cap;
     1
 }
 
-// Lays the sum of the tight half rows out as ceiling i; answers 1 where it is the sum of two or more, else 0. It decides, say, more things than
-// places, one thing in a place.
-fn lay_sum(
-    n: usize,
-    starts: &[usize],
-    variables: &[usize],
-    offs: &[u8],
-    weights: &[u64],
-    needs: &[u64],
-    i: usize,
-    gaps: &mut [u64],
-    dears: &mut [u8],
-    caps: &mut [u64],
-) -> usize
-    requires table { Table n starts.now variables.now offs.now weights.now needs.now }
-    requires variables_len_bound { (length variables.now ≤ max_terms + max_terms) × ((k : ℕ) → get_or weights.now k 0 ≤ max_coef) }
-    requires n_in_bounds { (i * n + n ≤ length gaps.old) × (i * n + n ≤ length dears.old) × (i < length caps.old) }
-    ensures { (result ≤ 1) × CeilingOne n starts.now variables.now offs.now weights.now needs.now i gaps.old gaps.new dears.old dears.new caps.old caps.new }
-{
-    let mut sides = [0u64; Filled::SIDES];
-    let mut slack: u64 = 0;
-    let mut rows: u64 = 0;
-    let mut h: usize = 0;
-    while h < needs.len() {
-        let more = heap_if(n, starts, variables, offs, weights, needs, h, &mut sides);
-        slack = slack + more;
-        rows = rows + reaches(more, 1);
-        h += 1;
-    }
-    lay_heap(n, &sides, slack, i, gaps, dears, caps);
-    reaches(rows, 2) as usize
-}
-
 // Lays the sum of the tight half rows out as a ceiling, then the first tight ones that are long, four ceilings at most, and answers how many.
-pub fn lay_ceilings(
-    n: usize,
-    starts: &[usize],
-    variables: &[usize],
-    offs: &[u8],
-    weights: &[u64],
-    needs: &[u64],
-    gaps: &mut [u64],
-    dears: &mut [u8],
-    caps: &mut [u64],
-) -> usize
-    requires table { Table n starts.now variables.now offs.now weights.now needs.now }
-    requires variables_len_bound { (length variables.now ≤ max_terms + max_terms) × ((k : ℕ) → get_or weights.now k 0 ≤ max_coef) }
-    requires n_in_bounds { (4 * n ≤ length gaps.old) × (4 * n ≤ length dears.old) × (4 ≤ length caps.old) }
-    ensures { (result ≤ 4) × CeilingAll n starts.now variables.now offs.now weights.now needs.now result gaps.old gaps.new dears.old dears.new caps.old caps.new }
+pub fn lay_ceilings(rows: &Rows<'_>, costs: &mut [Cost], caps: &mut [u64]) -> usize
+    requires narrow { Narrow rows.now }
+    requires n_in_bounds { (4 * rows.now.n ≤ length costs.old) × (4 ≤ length caps.old) }
+    ensures { (result ≤ 4) × Ceiled rows.now costs.new (take result caps.new) }
 {
-    let mut count = lay_sum(
-        n, starts, variables, offs, weights, needs, 0, gaps, dears, caps,
-    );
-    let mut h: usize = 0;
-    while h < needs.len() {
-        count = lay_if(
-            n, starts, variables, offs, weights, needs, h, count, gaps, dears, caps,
-        );
-        h += 1;
+    let mut count = lay_first(rows, costs, caps);
+    for h in 0..rows.needs.len() {
+        count = lay_if(rows, h, count, costs, caps);
     }
     count
 }

@@ -2,7 +2,7 @@
 // Signed numbers end here: what searches for points counts in natural numbers alone. Read specs/Halves.antt.
 #![tactic(auto)]
 
-pub mod rows; // rows.rt: one half row laid out in runs
+pub mod rows; // rows.rt: one half row laid out
 pub mod fill; // fill.rt: the rows of an instance, one after the other
 pub mod costs; // costs.rt: objectives, by what each variable costs
 pub mod heaps; // heaps.rt: what half rows withhold, added up
@@ -13,15 +13,13 @@ ghost use Rattle.instance.specs.Structs.{term_of};
 ghost use Rattle.instance.specs.Terms.{TermOk};
 ghost use Rattle.normal.specs.Halves.{is_negative, off_side, half_of};
 
-use instance::Term;
+use charging::Term;
 use instance::signed::magnitude32;
 
-// A term of a half row: it gives `weight` unless its variable, counted from 0, stands at `off`; `lost` was added to the need for it.
-#[derive(Drop)]
+// A term of a row as one of a half row; `lost` was added to the need for it.
+#[derive(Clone, Copy, Debug, PartialEq, Eq)]
 pub struct Half {
-    pub variable: u64,
-    pub off: u8,
-    pub weight: u64,
+    pub term: Term,
     pub lost: u64,
 }
 
@@ -46,18 +44,19 @@ fn off_side(lit: i32, negative: bool) -> u8
 }
 
 // A term of a row as a term of a half row.
-pub fn half_of(turn: bool, t: Term) -> Half
+pub fn half_of(turn: bool, t: instance::Term) -> Half
     requires { TermOk (term_of t) }
     ensures { result ≡ half_of turn (term_of t) }
 {
-    let coef = t.coef;
-    let lit = t.lit;
-    let negative = is_negative(turn, coef);
-    let weight = magnitude32(coef);
-    Half {
-        variable: magnitude32(lit) - 1,
-        off: off_side(lit, negative),
+    let negative = is_negative(turn, t.coef);
+    let weight = magnitude32(t.coef);
+    let term = Term {
         weight,
+        variable: (magnitude32(t.lit) - 1) as u8,
+        off: off_side(t.lit, negative),
+    };
+    Half {
+        term,
         lost: if negative { weight } else { 0 },
     }
 }

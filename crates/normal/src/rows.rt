@@ -1,12 +1,32 @@
-// Half rows laid out in lent runs: variables, sides and weights of their terms one after the other.
-ghost use Rattle.std.specs.Prelude.{◌≡◌, ◌+◌, ◌*◌, ◌≤◌, nat_abs, length};
+// One half row laid out: its terms behind those of the half rows before it, its need, and where the next one's terms begin.
+ghost use Rattle.std.specs.Prelude.{◌≡◌, ◌∷◌, [], ◌+◌, ◌*◌, ◌≤◌, nat_abs, length};
 ghost use Rattle.instance.specs.Limits.{max_terms, max_bound, term_room};
 ghost use Rattle.instance.specs.Parts.{TermsOk};
-ghost use Rattle.normal.specs.Rows.{half_row_at, HalfPut, Room, Added};
+ghost use Rattle.instance.specs.Structs.{entry_of};
+ghost use Rattle.normal.specs.Rows.{HalfPut};
+ghost use Rattle.normal.specs.Grown.{half_row, Grown, Rooms};
 ghost use Rattle.normal.specs.Halves.{turned, need_by};
 
 use crate::half_of;
-use instance::Term;
+use charging::Term;
+use instance::{Entry, Instance};
+
+// How many half rows are laid out, and how many terms of them.
+#[derive(Clone, Copy, Debug, PartialEq, Eq)]
+pub struct Filled {
+    pub halves: usize,
+    pub used: usize,
+}
+
+// The room that the half rows of any instance take.
+impl Filled {
+    // Half rows: a row has two at most.
+    pub const HALVES: usize = Instance::MAX_ROWS * 2;
+    // Where each half row's terms begin, and where the last one's end.
+    pub const STARTS: usize = Filled::HALVES + 1;
+    // Terms of half rows.
+    pub const TERMS: usize = Instance::MAX_TERMS * 2;
+}
 
 // Lays the `count` terms from `first` on out from place `at` on, each as a term of a half row; answers what was added for all.
 pub fn put_half(
@@ -15,25 +35,19 @@ pub fn put_half(
     count: usize,
     turn: bool,
     at: usize,
-    variables: &mut [usize],
-    offs: &mut [u8],
-    weights: &mut [u64],
+    laid: &mut [Term],
 ) -> u64
     requires term_room_in_bounds { term_room ≤ length terms.now }
     requires count_bound { first + count ≤ max_terms }
     requires terms_ok { TermsOk terms.now (first + count) }
-    requires count_in_bounds { (at + count ≤ length variables.old) × (at + count ≤ length offs.old) × (at + count ≤ length weights.old) }
-    ensures { HalfPut terms.now first count turn at variables.old variables.new offs.old offs.new weights.old weights.new result }
+    requires count_in_bounds { at + count ≤ length laid.old }
+    ensures { HalfPut terms.now first count turn at laid.old laid.new result }
 {
     let mut lost: u64 = 0;
-    let mut k: usize = 0;
-    while k < count {
-        let h = half_of(turn, Term::at(terms, first + k));
-        variables[at + k] = h.variable as usize;
-        offs[at + k] = h.off;
-        weights[at + k] = h.weight;
+    for k in 0..count {
+        let h = half_of(turn, instance::Term::at(terms, first + k));
+        laid[at + k] = h.term;
         lost += h.lost;
-        k += 1;
     }
     lost
 }
@@ -62,29 +76,27 @@ pub fn need_of(turn: bool, bound: i64, lost: u64) -> u64
     need as u64
 }
 
-// Lays one half row out: its terms from place `used` on, its need and where the next one begins. `halves` stand before it.
+// Lays one half row of a row out, its signs turned where `turn` says so.
 pub fn add_half(
     terms: &[i32],
-    first: usize,
-    count: usize,
+    e: Entry,
     turn: bool,
-    bound: i64,
-    halves: usize,
-    used: usize,
+    at: Filled,
     starts: &mut [usize],
-    variables: &mut [usize],
-    offs: &mut [u8],
-    weights: &mut [u64],
+    laid: &mut [Term],
     needs: &mut [u64],
-)
+) -> Filled
     requires term_room_in_bounds { term_room ≤ length terms.now }
-    requires count_bound { first + count ≤ max_terms }
-    requires terms_ok { TermsOk terms.now (first + count) }
-    requires bound_bound { nat_abs bound ≤ max_bound }
-    requires room { Room starts.old variables.old offs.old weights.old needs.old halves used count }
-    ensures { Added (half_row_at terms.now first count turn bound) starts.old starts.new variables.old variables.new offs.old offs.new weights.old weights.new needs.old needs.new halves used }
+    requires count_bound { e.first + e.count ≤ max_terms }
+    requires terms_ok { TermsOk terms.now (e.first + e.count) }
+    requires bound_bound { nat_abs e.bound ≤ max_bound }
+    requires rooms { Rooms starts.old laid.old needs.old (at.halves + 1) (at.used + e.count) }
+    ensures { Grown (half_row turn (entry_of terms.now e) ∷ []) starts.old starts.new laid.old laid.new needs.old needs.new at.halves at.used result.halves result.used }
 {
-    let lost = put_half(terms, first, count, turn, used, variables, offs, weights);
-    needs[halves] = need_of(turn, bound, lost);
-    starts[halves + 1] = used + count;
+    let lost = put_half(terms, e.first, e.count, turn, at.used, laid);
+    let halves = at.halves + 1;
+    let used = at.used + e.count;
+    needs[at.halves] = need_of(turn, e.bound, lost);
+    starts[halves] = used;
+    Filled { halves, used }
 }
