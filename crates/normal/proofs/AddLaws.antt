@@ -12,9 +12,11 @@ use Rattle.instance.specs.Limits.{max_coef}
 use Rattle.instance.specs.Parts.{TermsOk}
 use Rattle.instance.specs.Tables.{term_at}
 use Rattle.instance.specs.Lists.{tabulate}
+use Rattle.charging.specs.declared.rows.Term.{Term as HalfTerm}
 use Rattle.normal.specs.declared.Half.{Half}
 use Rattle.normal.specs.Halves.{half_of, lost_all, need_by}
-use Rattle.normal.specs.Rows.{halves_at, Goes, HalfPut, HalfRow, half_row_at, all_halves, starts_from, Room, Added}
+use Rattle.normal.specs.Rows.{halves_at, terms_of, HalfPut, HalfRow, all_halves, starts_from}
+use Rattle.normal.specs.Grown.{Grown, Rooms}
 use Rattle.normal.proofs.LaidLaws.{map-append, halves-snoc, halves-length, lost-snoc, lost-le}
 
 -- ---- lost_all
@@ -48,39 +50,41 @@ starts-snoc first (h ∷ hs) r = ap (λ (l : List ℕ). first ∷ l) (starts-sno
     same : first + length h.terms + length (all_halves hs) + length r.terms ≡ first + length (h.terms ++ all_halves hs) + length r.terms
     same = omega (arith, length-append h.terms (all_halves hs))
 
--- ---- Added
+-- ---- Grown
 
 -- a store just after what is taken adds to it
 take_next : (l xs : List ℕ) (i v : ℕ) → i < length l → take i l ≡ xs → take (i + 1) (set l i v) ≡ xs ++ (v ∷ [])
 take_next l xs i v h e = ap (λ (n : ℕ). take n (set l i v)) (add-one i) ∙ take-suc-set l i v h ∙ ap (λ (ys : List ℕ). ys ++ (v ∷ [])) e
 
--- a run that went on holds the numbers of all terms
-goes-all : (f : Half → ℕ) (hs : List HalfRow) (r : HalfRow) {used : ℕ} {xs xs' : List ℕ} → Goes f r.terms used xs xs' → take used xs ≡ map f (all_halves hs)
-    → take (used + length r.terms) xs' ≡ map f (all_halves (hs ++ (r ∷ [])))
-goes-all f hs r g e = g.laid ∙ ap (λ (l : List ℕ). l ++ map f r.terms) e ∙ sym (map-append f (all_halves hs) r.terms) ∙ ap (map f) (sym (all_halves-snoc hs r))
+-- the half row of terms of the table, once its terms, its need and the next start are stored
+module _ (ts : List ℤ) (first count : ℕ) (turn : Bool) (bound : ℤ) where
+  abbrev half : HalfRow
+  half = record { terms = halves_at ts first count turn; need = need_by turn bound (lost_all (halves_at ts first count turn)) }
 
-pub added_is : (ts : List ℤ) (first count : ℕ) (turn : Bool) (bound : ℤ) {starts vs vs' os os' ws ws' needs : List ℕ} {halves used lost need : ℕ}
-    → Room starts vs os ws needs halves used count → HalfPut ts first count turn used vs vs' os os' ws ws' lost → need ≡ need_by turn bound lost
-    → Added (half_row_at ts first count turn bound) starts (set starts (halves + 1) (used + count)) vs vs' os os' ws ws' needs (set needs halves need) halves used
-added_is ts first count turn bound {starts} {vs} {vs'} {os} {os'} {ws} {ws'} {needs} {halves} {used} {lost} {need} room p e = record {
-  starts_same = simp length-set;
-  variables_same = p.variables.same;
-  offs_same = p.offs.same;
-  weights_same = p.weights.same;
-  needs_same = simp length-set;
-  more = λ hs l. record {
-    halves_is = ap (λ (n : ℕ). n + 1) l.halves_is ∙ sym (length-append hs (r ∷ []));
-    used_is = ap (λ (n : ℕ). n + length r.terms) l.used_is ∙ sym (ap length (all_halves-snoc hs r) ∙ length-append (all_halves hs) r.terms);
-    starts_are = take_next starts (starts_from 0 hs) (halves + 1) (used + count) room.starts_room l.starts_are ∙ ap (λ (n : ℕ). starts_from 0 hs ++ (n ∷ [])) (next hs l.used_is) ∙ sym (starts-snoc 0 hs r);
-    variables_are = goes-all (λ h. h.variable) hs r p.variables l.variables_are;
-    offs_are = goes-all (λ h. h.off) hs r p.offs l.offs_are;
-    weights_are = goes-all (λ h. h.weight) hs r p.weights l.weights_are;
-    needs_are = take_next needs (map (λ x. x.need) hs) halves need room.needs_room l.needs_are ∙ ap (λ (n : ℕ). map (λ x. x.need) hs ++ (n ∷ [])) (e ∙ ap (need_by turn bound) p.lost) ∙ sym (map-append (λ x. x.need) hs (r ∷ []));
-  };
-}
-  where
-    r : HalfRow
-    r = half_row_at ts first count turn bound
+  pub grown-half : {starts : List ℕ} {laid laid' : List HalfTerm} {needs : List ℕ} {halves used lost need : ℕ}
+      → Rooms starts laid needs (halves + 1) (used + count) → HalfPut ts first count turn used laid laid' lost → need ≡ need_by turn bound lost
+      → Grown (half ∷ []) starts (set starts (halves + 1) (used + count)) laid laid' needs (set needs halves need) halves used (halves + 1) (used + count)
+  unfolding all_halves
+  grown-half {starts} {laid} {laid'} {needs} {halves} {used} {lost} {need} room p e = record {
+    starts_same = simp length-set;
+    laid_same = p.same;
+    needs_same = simp length-set;
+    halves_more = omega arith;
+    used_more = omega (arith, ap length (append-nil half.terms), size);
+    more = λ hs l. record {
+      halves_is = ap (λ (n : ℕ). n + 1) l.halves_is ∙ sym (length-append hs (half ∷ []));
+      used_is = omega (arith, l.used_is, ap length (all_halves-snoc hs half), length-append (all_halves hs) half.terms, size);
+      starts_are = take_next starts (starts_from 0 hs) (halves + 1) (used + count) (omega (arith, room.starts_room)) l.starts_are
+          ∙ ap (λ (n : ℕ). starts_from 0 hs ++ (n ∷ [])) (next hs l.used_is) ∙ sym (starts-snoc 0 hs half);
+      terms_are = p.laid ∙ ap (λ (xs : List HalfTerm). xs ++ terms_of half.terms) l.terms_are
+          ∙ sym (map-append (λ (h : Half). h.term) (all_halves hs) half.terms) ∙ ap terms_of (sym (all_halves-snoc hs half));
+      needs_are = take_next needs (map (λ r. r.need) hs) halves need (omega (arith, room.needs_room)) l.needs_are
+          ∙ ap (λ (n : ℕ). map (λ r. r.need) hs ++ (n ∷ [])) (e ∙ ap (need_by turn bound) p.lost) ∙ sym (map-append (λ r. r.need) hs (half ∷ []));
+    };
+  }
+    where
+      size : length (halves_at ts first count turn) ≡ count
+      size = halves-length ts first count turn
 
-    next : (hs : List HalfRow) → used ≡ length (all_halves hs) → used + count ≡ 0 + length (all_halves hs) + length r.terms
-    next hs u = omega (arith, halves-length ts first count turn)
+      next : (hs : List HalfRow) → used ≡ length (all_halves hs) → used + count ≡ 0 + length (all_halves hs) + length half.terms
+      next hs u = omega (arith, size)

@@ -8,6 +8,7 @@ use lib.Dec.{eqb}
 use lib.IntN.{ℤ, nat_abs}
 use lib.ListN.{length, set, length-set, length-append, length-map}
 use lib.Seq.{take-suc-set}
+use Rattle.charging.specs.declared.rows.Term.{Term as HalfTerm}
 use Rattle.instance.specs.Limits.{max_terms, max_bound}
 use Rattle.instance.specs.Parts.{TermsOk}
 use Rattle.instance.specs.Rows.{Entry}
@@ -56,52 +57,45 @@ all-few (e ∷ es) =
 
 -- ---- the rows so far
 
-pub record Laying (ts rs : List ℤ) (first k : ℕ) (starts₀ starts vs₀ vs os₀ os ws₀ ws needs₀ needs : List ℕ) (halves used : ℕ) : Type 0 where
-  pub laid : Laid (half_rows_all (tabulate (entry_at ts rs) first k)) starts vs os ws needs halves used
+pub record Laying (ts rs : List ℤ) (first k : ℕ) (starts₀ starts : List ℕ) (laid₀ laid : List HalfTerm) (needs₀ needs : List ℕ) (halves used : ℕ) : Type 0 where
+  pub rows : Laid (half_rows_all (tabulate (entry_at ts rs) first k)) starts laid needs halves used
   pub starts_same : length starts ≡ length starts₀
-  pub variables_same : length vs ≡ length vs₀
-  pub offs_same : length os ≡ length os₀
-  pub weights_same : length ws ≡ length ws₀
+  pub laid_same : length laid ≡ length laid₀
   pub needs_same : length needs ≡ length needs₀
   pub few_halves : halves ≤ k + k
   pub few_terms : used ≤ terms_before rs (first + k) + terms_before rs (first + k)
 
-pub laying-start : (ts rs : List ℤ) (first : ℕ) (starts vs os ws needs : List ℕ) → 1 ≤ length starts → Laying ts rs first 0 (set starts 0 0) (set starts 0 0) vs vs os os ws ws needs needs 0 0
+pub laying-start : (ts rs : List ℤ) (first : ℕ) (starts : List ℕ) (laid : List HalfTerm) (needs : List ℕ) → 1 ≤ length starts
+    → Laying ts rs first 0 (set starts 0 0) (set starts 0 0) laid laid needs needs 0 0
 unfolding tabulate half_rows_all all_halves starts_from
-laying-start ts rs first starts vs os ws needs h = record {
-  laid = record { halves_is = refl; used_is = refl; starts_are = take-suc-set starts 0 0 h; variables_are = refl; offs_are = refl; weights_are = refl; needs_are = refl };
+laying-start ts rs first starts laid needs h = record {
+  rows = record { halves_is = refl; used_is = refl; starts_are = take-suc-set starts 0 0 h; terms_are = refl; needs_are = refl };
   starts_same = refl;
-  variables_same = refl;
-  offs_same = refl;
-  weights_same = refl;
+  laid_same = refl;
   needs_same = refl;
   few_halves = omega arith;
   few_terms = omega arith;
 }
 
-module _ {ts rs : List ℤ} {first k : ℕ} {starts₀ starts vs₀ vs os₀ os ws₀ ws needs₀ needs : List ℕ} {halves used : ℕ} (l : Laying ts rs first k starts₀ starts vs₀ vs os₀ os ws₀ ws needs₀ needs halves used) (i : IsInstance ts rs) (h : first + k < entries_in rs) where
+module _ {ts rs : List ℤ} {first k : ℕ} {starts₀ starts : List ℕ} {laid₀ laid : List HalfTerm} {needs₀ needs : List ℕ} {halves used : ℕ} (l : Laying ts rs first k starts₀ starts laid₀ laid needs₀ needs halves used) (i : IsInstance ts rs) (h : first + k < entries_in rs) where
   -- the next entry's terms come after those before it
   total : terms_before rs (first + k) + nat_abs (count_at rs (first + k)) ≤ max_terms
   total = omega (arith, sym (terms_before-step rs (first + k)), terms_before-le rs (first + k + 1) (entries_in rs) (omega arith), i.few_terms)
 
-  pub laying-room : (count : ℕ) → Rooms starts₀ vs₀ os₀ ws₀ needs₀ (count + count) (max_terms + max_terms) → k < count → (c : ℕ) → c ≡ nat_abs (count_at rs (first + k)) → Rooms starts vs os ws needs (halves + 2) (used + (c + c))
+  pub laying-room : (count : ℕ) → Rooms starts₀ laid₀ needs₀ (count + count) (max_terms + max_terms) → k < count → (c : ℕ) → c ≡ nat_abs (count_at rs (first + k)) → Rooms starts laid needs (halves + 2) (used + (c + c))
   laying-room count m u c e = record {
     starts_room = omega (arith, m.starts_room, l.starts_same, l.few_halves);
-    variables_room = omega (arith, m.variables_room, l.variables_same, l.few_terms, total);
-    offs_room = omega (arith, m.offs_room, l.offs_same, l.few_terms, total);
-    weights_room = omega (arith, m.weights_room, l.weights_same, l.few_terms, total);
+    laid_room = omega (arith, m.laid_room, l.laid_same, l.few_terms, total);
     needs_room = omega (arith, m.needs_room, l.needs_same, l.few_halves);
   }
 
-  pub laying-step : (e : EntryNumbers) → EntryIs rs (first + k) e → {starts' vs' os' ws' needs' : List ℕ} {halves' used' : ℕ}
-      → Grown (half_rows_of (entry_of ts e)) starts starts' vs vs' os os' ws ws' needs needs' halves used halves' used'
-      → Laying ts rs first (k + 1) starts₀ starts' vs₀ vs' os₀ os' ws₀ ws' needs₀ needs' halves' used'
-  laying-step e n {starts'} {vs'} {os'} {ws'} {needs'} {halves'} {used'} g = record {
-    laid = subst (λ (hs : List HalfRow). Laid hs starts' vs' os' ws' needs' halves' used') next (g.more (half_rows_all (tabulate (entry_at ts rs) first k)) l.laid);
+  pub laying-step : (e : EntryNumbers) → EntryIs rs (first + k) e → {starts' : List ℕ} {laid' : List HalfTerm} {needs' : List ℕ} {halves' used' : ℕ}
+      → Grown (half_rows_of (entry_of ts e)) starts starts' laid laid' needs needs' halves used halves' used'
+      → Laying ts rs first (k + 1) starts₀ starts' laid₀ laid' needs₀ needs' halves' used'
+  laying-step e n {starts'} {laid'} {needs'} {halves'} {used'} g = record {
+    rows = subst (λ (hs : List HalfRow). Laid hs starts' laid' needs' halves' used') next (g.more (half_rows_all (tabulate (entry_at ts rs) first k)) l.rows);
     starts_same = g.starts_same ∙ l.starts_same;
-    variables_same = g.variables_same ∙ l.variables_same;
-    offs_same = g.offs_same ∙ l.offs_same;
-    weights_same = g.weights_same ∙ l.weights_same;
+    laid_same = g.laid_same ∙ l.laid_same;
     needs_same = g.needs_same ∙ l.needs_same;
     few_halves = omega (arith, g.halves_more, l.few_halves, (row-few (entry_of ts e)).0);
     few_terms = omega (arith, g.used_more, l.few_terms, (row-few (entry_of ts e)).1, tabulate-length (term_at ts) e.first e.count, n.count, ap (terms_before rs) place ∙ terms_before-step rs (first + k));
@@ -116,14 +110,8 @@ module _ {ts rs : List ℤ} {first k : ℕ} {starts₀ starts vs₀ vs os₀ os 
           ∙ ap half_rows_all (sym (tabulate-snoc (entry_at ts rs) first k))
 
 -- a store leaves the rooms
-pub rooms-set : {starts vs os ws needs : List ℕ} {halves used : ℕ} (i v : ℕ) → Rooms starts vs os ws needs halves used → Rooms (set starts i v) vs os ws needs halves used
-rooms-set {starts} i v m = record {
-  starts_room = omega (arith, m.starts_room, length-set starts i v);
-  variables_room = m.variables_room;
-  offs_room = m.offs_room;
-  weights_room = m.weights_room;
-  needs_room = m.needs_room;
-}
+pub rooms-set : {starts : List ℕ} {laid : List HalfTerm} {needs : List ℕ} {halves used : ℕ} (i v : ℕ) → Rooms starts laid needs halves used → Rooms (set starts i v) laid needs halves used
+rooms-set {starts} i v m = record { starts_room = omega (arith, m.starts_room, length-set starts i v); laid_room = m.laid_room; needs_room = m.needs_room }
 
 -- what laying a row out asks of an entry that was read
 module _ {ts rs : List ℤ} (i : IsInstance ts rs) (k : ℕ) (h : k < entries_in rs) (e : EntryNumbers) (n : EntryIs rs k e) where

@@ -9,13 +9,14 @@ use native.Mathlib.Omega.{arith}
 use lib.Dec.{eqb}
 use lib.ListN.{length, get_or, length-map, get_or-map}
 use borrow.Author.Tests.{ne_eqb, eqb-false, not-true}
-use Rattle.charging.specs.Rows.{Meets, bit}
+use Rattle.charging.specs.declared.rows.Term.{Term as HalfTerm}
+use Rattle.charging.specs.Rows.{bit}
 use Rattle.instance.specs.Rows.{Entry, holds}
 use Rattle.normal.specs.Halves.{gives_all, RowMet}
-use Rattle.normal.specs.Rows.{HalfRow, all_halves, starts_from}
+use Rattle.normal.specs.Rows.{HalfRow, terms_of, all_halves, starts_from}
 use Rattle.normal.specs.Grown.{if_wanted, half_row, half_rows_of, half_rows_all}
 use Rattle.normal.proofs.RowLaws.{holds-met, met_holds}
-use Rattle.normal.proofs.SpanLaws.{variables_of, offs_of, weights_of, row_at, left-gives}
+use Rattle.normal.proofs.SpanLaws.{row_at, left_at, left-gives}
 
 -- a half row is met
 abbrev pub IsMet : HalfRow → ℕ → Type 0
@@ -33,16 +34,20 @@ place-all : (P : HalfRow → Type 0) (hs : List HalfRow) → ((k : ℕ) → k < 
 place-all P [] f r m = absurd (Memᴰ.not-nil m)
 place-all P (x ∷ xs) f r m = ⊎_elim (λ e. subst P (sym e) (f 0 (omega arith))) (λ n. place-all P xs (λ k h. f (suc k) (omega arith)) r n) (Memᴰ.cases_cons m)
 
--- ---- Meets
+-- ---- MeetsAt
+
+-- what it is to meet every row, by the places of the terms among all
+abbrev pub MeetsAt : List ℕ → List HalfTerm → List ℕ → (ℕ → ℕ) → Type 0
+MeetsAt starts terms needs x = (h : ℕ) → h < length needs → get_or needs h 0 ≤ left_at starts terms x h
 
 module _ (hs : List HalfRow) (a : ℕ) where
   need-at : (k : ℕ) → get_or (map (λ r. r.need) hs) k 0 ≡ (row_at hs k).need
   need-at k = get_or-map (λ r. r.need) hs k (record { terms = []; need = 0 })
 
-  pub meets-all : Meets (starts_from 0 hs) (variables_of (all_halves hs)) (offs_of (all_halves hs)) (weights_of (all_halves hs)) (map (λ r. r.need) hs) (bit a) → (r : HalfRow) → Memᴰ r hs → IsMet r a
+  pub meets-all : MeetsAt (starts_from 0 hs) (terms_of (all_halves hs)) (map (λ r. r.need) hs) (bit a) → (r : HalfRow) → Memᴰ r hs → IsMet r a
   meets-all m = place-all (λ r. IsMet r a) hs (λ k h. subst (λ (n : ℕ). n ≤ gives_all (row_at hs k).terms a) (need-at k) (subst (λ (n : ℕ). get_or (map (λ r. r.need) hs) k 0 ≤ n) (left-gives a hs [] k h) (m k (omega (arith, length-map hs (λ r. r.need))))))
 
-  pub all-meets : ((r : HalfRow) → Memᴰ r hs → IsMet r a) → Meets (starts_from 0 hs) (variables_of (all_halves hs)) (offs_of (all_halves hs)) (weights_of (all_halves hs)) (map (λ r. r.need) hs) (bit a)
+  pub all-meets : ((r : HalfRow) → Memᴰ r hs → IsMet r a) → MeetsAt (starts_from 0 hs) (terms_of (all_halves hs)) (map (λ r. r.need) hs) (bit a)
   all-meets f k h =
       let l : k < length hs = omega (arith, length-map hs (λ r. r.need)) in
       subst (λ (n : ℕ). get_or (map (λ r. r.need) hs) k 0 ≤ n) (sym (left-gives a hs [] k l)) (subst (λ (n : ℕ). n ≤ gives_all (row_at hs k).terms a) (sym (need-at k)) (f (row_at hs k) (member-at hs k l)))

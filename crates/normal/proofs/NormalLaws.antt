@@ -1,14 +1,16 @@
 -- The runs that hold the half rows and the objectives are normal tables of the instance. Assumes nothing.
-use mathlib.Core.Path.{◌≡◌, sym, ap, ap₂, subst}
+use mathlib.Core.Path.{◌≡◌, sym, ap, ap₂, subst, ◌∙◌}
 use mathlib.Core.List.{List, map, Memᴰ}
-use Prim.Native.Nat.{ℕ, zero, suc, ◌+◌, ◌*◌, ◌/◌, ◌%◌, ◌^◌, ◌≤◌, ◌<◌}
-use native.Mathlib.Nat.{mul-le-mul_right, suc-mul, mod-lt, div-add-mod'}
+use Prim.Native.Nat.{ℕ, ◌+◌, ◌^◌, ◌≤◌, ◌<◌}
 use native.Mathlib.Omega.{arith}
-use native.Mathlib.Decide.{dec_lt}
 use lib.IntN.{ℤ, nat_abs}
-use lib.ListN.{length, get_or, take, length-append, get_or-eq_default}
-use lib.Seq.{get_or-take, length-take-le}
-use Rattle.charging.specs.Rows.{bit, Table, Meets, Costs}
+use lib.ListN.{length, take, length-append}
+use Rattle.charging.specs.declared.rows.Term.{Term as HalfTerm}
+use Rattle.charging.specs.declared.rows.Cost.{Cost}
+use Rattle.charging.specs.declared.rows.Rows.{Rows}
+use Rattle.charging.specs.Rows.{bit, weight, Table}
+use Rattle.charging.specs.Meets.{Meets}
+use Rattle.charging.proofs.TableLaws.{left-from}
 use Rattle.instance.specs.Limits.{max_coef, max_terms, max_rows}
 use Rattle.instance.specs.Terms.{Term, TermOk}
 use Rattle.instance.specs.Lists.{tabulate}
@@ -19,20 +21,27 @@ use Rattle.instance.proofs.NumberLaws.{all_terms-append}
 use Rattle.instance.proofs.SumLaws.{highest-member}
 use Rattle.instance.proofs.InstanceLaws.{variables-le}
 use Rattle.instance.proofs.MeaningLaws.{instance-within}
-use Rattle.normal.specs.Rows.{HalfRow, all_halves, starts_from, Laid}
+use Rattle.normal.specs.Rows.{HalfRow, terms_of, all_halves, starts_from, Laid}
 use Rattle.normal.specs.Grown.{half_rows_all}
-use Rattle.normal.specs.Costs.{Priced, PricedAll}
+use Rattle.normal.specs.Costs.{PricedAll}
 use Rattle.normal.specs.Normal.{RowsHold, Normal}
-use Rattle.normal.proofs.SpanLaws.{variables_of, offs_of, weights_of}
-use Rattle.normal.proofs.MeetLaws.{Kinds, meets-all, all-meets, hold-met, met-hold}
-use Rattle.normal.proofs.TableLaws.{rows_ok, rows-table, weights-coef}
+use Rattle.normal.proofs.MeetLaws.{Kinds, MeetsAt, meets-all, all-meets, hold-met, met-hold}
+use Rattle.normal.proofs.TableLaws.{HalfOk, rows_ok, rows-table, weights-coef}
 use Rattle.normal.proofs.LayLaws.{all-few}
-use Rattle.normal.proofs.PricedLaws.{priced-frame}
 
--- what holds of five lists holds of lists equal to them
-five : (P : List ℕ → List ℕ → List ℕ → List ℕ → List ℕ → Type 0) {a a' b b' c c' d d' e e' : List ℕ} → a ≡ a' → b ≡ b' → c ≡ c' → d ≡ d' → e ≡ e' → P a' b' c' d' e' → P a b c d e
-five P {a} {a'} {b} {b'} {c} {c'} {d} {d'} {e} {e'} p q r s t h =
-    subst (λ (x : List ℕ). P x b c d e) (sym p) (subst (λ (x : List ℕ). P a' x c d e) (sym q) (subst (λ (x : List ℕ). P a' b' x d e) (sym r) (subst (λ (x : List ℕ). P a' b' c' x e) (sym s) (subst (λ (x : List ℕ). P a' b' c' d' x) (sym t) h))))
+-- ---- Meets, by the places of the terms among all
+
+module _ (rows : Rows) (x : ℕ → ℕ) where
+  pub meets-at : Meets rows x → MeetsAt rows.starts.now rows.terms.now rows.needs.now x
+  meets-at m h l = omega (arith, m h l, left-from rows x h l)
+
+  pub at-meets : MeetsAt rows.starts.now rows.terms.now rows.needs.now x → Meets rows x
+  at-meets m h l = omega (arith, m h l, left-from rows x h l)
+
+-- what holds of three lists holds of lists equal to them
+three : (P : List ℕ → List HalfTerm → List ℕ → Type 0) {a a' : List ℕ} {b b' : List HalfTerm} {c c' : List ℕ} → a ≡ a' → b ≡ b' → c ≡ c' → P a' b' c' → P a b c
+three P {a} {a'} {b} {b'} {c} {c'} p q r h =
+    subst (λ (x : List ℕ). P x b c) (sym p) (subst (λ (x : List HalfTerm). P a' x c) (sym q) (subst (λ (x : List ℕ). P a' b' x) (sym r) h))
 
 -- ---- rows
 
@@ -46,64 +55,33 @@ module _ {ts rs : List ℤ} (is : IsInstance ts rs) where
   kinds : Kinds (meaning ts rs).rows
   kinds e m = (((instance-within is).rows e m).kind_low, ((instance-within is).rows e m).kind_high)
 
-  module _ {hs : List HalfRow} (all : hs ≡ half_rows_all (meaning ts rs).rows) {starts vs os ws needs : List ℕ} {halves used : ℕ} (l : Laid hs starts vs os ws needs halves used) (few : halves ≤ 2 ^ 16) (short : used ≤ 2 ^ 24) where
-    rows_are : (P : List ℕ → List ℕ → List ℕ → List ℕ → List ℕ → Type 0) → P (starts_from 0 hs) (variables_of (all_halves hs)) (offs_of (all_halves hs)) (weights_of (all_halves hs)) (map (λ r. r.need) hs) → P (take (halves + 1) starts) (take used vs) (take used os) (take used ws) (take halves needs)
-    rows_are P = five P l.starts_are l.variables_are l.offs_are l.weights_are l.needs_are
+  module _ {hs : List HalfRow} (all : hs ≡ half_rows_all (meaning ts rs).rows) {starts : List ℕ} {laid : List HalfTerm} {needs : List ℕ} {halves used : ℕ} (l : Laid hs starts laid needs halves used) where
+    -- what holds of the half rows' lists holds of what is filled of the runs
+    rows_are : (P : List ℕ → List HalfTerm → List ℕ → Type 0) → P (starts_from 0 hs) (terms_of (all_halves hs)) (map (λ r. r.need) hs) → P (take (halves + 1) starts) (take used laid) (take halves needs)
+    rows_are P = three P l.starts_are l.terms_are l.needs_are
 
-    pub laid_table : Table (meaning ts rs).variables (take (halves + 1) starts) (take used vs) (take used os) (take used ws) (take halves needs)
-    laid_table = rows_are (Table (meaning ts rs).variables) (rows-table (meaning ts rs).variables hs (λ h m. rows_ok (meaning ts rs).variables (meaning ts rs).rows row_terms h (subst (λ (x : List HalfRow). Memᴰ h (all_halves x)) all m)) (variables-le is) (omega (arith, l.used_is)) (omega (arith, l.halves_is)))
+    halves_ok : (h : _) → Memᴰ h (all_halves hs) → HalfOk (meaning ts rs).variables h
+    halves_ok h m = rows_ok (meaning ts rs).variables (meaning ts rs).rows row_terms h (subst (λ (x : List HalfRow). Memᴰ h (all_halves x)) all m)
+
+    pub laid-table : halves ≤ 2 ^ 16 → used ≤ 2 ^ 24 → Table (meaning ts rs).variables (take (halves + 1) starts) (take used laid) (take halves needs)
+    laid-table few short =
+        rows_are (Table (meaning ts rs).variables)
+        (rows-table (meaning ts rs).variables hs halves_ok (variables-le is) (omega (arith, l.used_is)) (omega (arith, l.halves_is)))
 
     -- no weight is more than a coefficient
-    pub laid-weights : (j : ℕ) → get_or (take used ws) j 0 ≤ max_coef
-    laid-weights = rows_are (λ s v o w n. (j : ℕ) → get_or w j 0 ≤ max_coef) (weights-coef (meaning ts rs).variables (all_halves hs) (λ h m. rows_ok (meaning ts rs).variables (meaning ts rs).rows row_terms h (subst (λ (x : List HalfRow). Memᴰ h (all_halves x)) all m)))
+    pub laid-weights : (j : ℕ) → j < length (take used laid) → weight (take used laid) j ≤ max_coef
+    laid-weights = rows_are (λ s w n. (j : ℕ) → j < length w → weight w j ≤ max_coef) (weights-coef (meaning ts rs).variables (all_halves hs) halves_ok)
 
-    pub laid-hold : (a : ℕ) → Meets (take (halves + 1) starts) (take used vs) (take used os) (take used ws) (take halves needs) (bit a) → RowsHold ts rs a
-    laid-hold a = rows_are (λ s v o w n. Meets s v o w n (bit a) → RowsHold ts rs a) (λ m. met-hold (meaning ts rs).rows a kinds (λ r i. meets-all hs a m r (subst (Memᴰ r) (sym all) i)))
+    pub laid-hold : (a : ℕ) → MeetsAt (take (halves + 1) starts) (take used laid) (take halves needs) (bit a) → RowsHold ts rs a
+    laid-hold a = rows_are (λ s w n. MeetsAt s w n (bit a) → RowsHold ts rs a) (λ m. met-hold (meaning ts rs).rows a kinds (λ r i. meets-all hs a m r (subst (Memᴰ r) (sym all) i)))
 
-    pub laid-met : (a : ℕ) → RowsHold ts rs a → Meets (take (halves + 1) starts) (take used vs) (take used os) (take used ws) (take halves needs) (bit a)
-    laid-met a f = rows_are (λ s v o w n. Meets s v o w n (bit a)) (all-meets hs a (λ r i. hold-met (meaning ts rs).rows a kinds f r (subst (Memᴰ r) all i)))
+    pub laid-met : (a : ℕ) → RowsHold ts rs a → MeetsAt (take (halves + 1) starts) (take used laid) (take halves needs) (bit a)
+    laid-met a f = rows_are (λ s w n. MeetsAt s w n (bit a)) (all-meets hs a (λ r i. hold-met (meaning ts rs).rows a kinds f r (subst (Memᴰ r) all i)))
 
--- ---- objectives
+-- ---- all
 
--- places of k objectives with n numbers each
-pub place-parts : (n k j : ℕ) → j < k * n → (j / n < k) × ((j % n < n) × ((j / n) * n + j % n ≡ j))
-place-parts zero k j h = absurd (omega arith)
-place-parts (suc n) k j h = (by (dec_lt (j / suc n) k), (mod-lt j (omega arith), div-add-mod' j (suc n)))
-  where
-    by : Dec (j / suc n < k) → j / suc n < k
-    by (yes l) = l
-    by (no l) = absurd (omega (arith, mul-le-mul_right (suc n) (not-lt l), div-add-mod' j (suc n)))
-      where
-        not-lt : (j / suc n < k → ⊥) → k ≤ j / suc n
-        not-lt f = omega arith
-
-module _ {ts rs : List ℤ} {n k : ℕ} {d₀ d dear₀ dear : List ℕ} (p : PricedAll ts rs n k d₀ d dear₀ dear) (dl : k * n ≤ length d) (el : k * n ≤ length dear) where
-  inside : (i v : ℕ) → i < k → v < n → i * n + v < k * n
-  inside i v h l = omega (arith, mul-le-mul_right n h, suc-mul i n)
-
-  pub taken-priced : (i : ℕ) → i < k → Priced ts rs n i (take (k * n) d) (take (k * n) dear)
-  taken-priced i h = priced-frame ts rs n i (λ v l. get_or-take (k * n) d (i * n + v) 0 (inside i v h l)) (λ v l. get_or-take (k * n) dear (i * n + v) 0 (inside i v h l)) (p.each i h)
-
-  pub taken-small : (j : ℕ) → get_or (take (k * n) d) j 0 ≤ 2 ^ 34
-  taken-small j = by (dec_lt j (k * n))
-    where
-      by : Dec (j < k * n) → get_or (take (k * n) d) j 0 ≤ 2 ^ 34
-      by (yes l) =
-          let q = place-parts n k j l in
-          omega (arith, ap (λ (x : ℕ). get_or (take (k * n) d) x 0) q.1.1, (taken-priced (j / n) q.0).small (j % n) q.1.0)
-      by (no l) = omega (arith, get_or-eq_default (take (k * n) d) 0 {n = j} (omega (arith, length-take-le (k * n) d dl)))
-
-  pub taken-costs : (i : ℕ) → i < k → Costs n (take (k * n) d) (take (k * n) dear) (i * n)
-  taken-costs i h = record {
-    long = omega (arith, length-take-le (k * n) d dl, mul-le-mul_right n h, suc-mul i n);
-    wide = omega (arith, length-take-le (k * n) dear el, mul-le-mul_right n h, suc-mul i n);
-    small = taken-small;
-    two = λ v l. (taken-priced i h).two v l;
-  }
-
--- ---- both
-
-module _ {ts rs : List ℤ} (is : IsInstance ts rs) {k m : ℕ} (ke : k ≡ objectives_in rs) (me : m ≡ rows_in rs) {starts vs os ws needs : List ℕ} {halves used : ℕ} (l : Laid (half_rows_all (tabulate (entry_at ts rs) k m)) starts vs os ws needs halves used) where
+module _ {ts rs : List ℤ} (is : IsInstance ts rs) {k m : ℕ} (ke : k ≡ objectives_in rs) (me : m ≡ rows_in rs)
+    {starts : List ℕ} {laid : List HalfTerm} {needs : List ℕ} {halves used : ℕ} (l : Laid (half_rows_all (tabulate (entry_at ts rs) k m)) starts laid needs halves used) where
   all : half_rows_all (tabulate (entry_at ts rs) k m) ≡ half_rows_all (meaning ts rs).rows
   all = ap half_rows_all (ap₂ (λ (a b : ℕ). tabulate (entry_at ts rs) a b) ke me)
 
@@ -111,22 +89,29 @@ module _ {ts rs : List ℤ} (is : IsInstance ts rs) {k m : ℕ} (ke : k ≡ obje
   few-halves = omega (arith, l.halves_is, ap length all, (all-few (meaning ts rs).rows).0, (instance-within is).few_rows)
 
   pub few-terms : used ≤ max_terms + max_terms
-  few-terms =
-      omega
-      (arith, l.used_is, ap (λ (hs : List HalfRow). length (all_halves hs)) all, (all-few (meaning ts rs).rows).1, (instance-within is).few_terms, ap length (all_terms-append (meaning ts rs).objectives (meaning ts rs).rows), length-append (all_terms (meaning ts rs).objectives) (all_terms (meaning ts rs).rows))
+  few-terms = omega (
+    arith,
+    l.used_is,
+    ap (λ (hs : List HalfRow). length (all_halves hs)) all,
+    (all-few (meaning ts rs).rows).1,
+    (instance-within is).few_terms,
+    ap length (all_terms-append (meaning ts rs).objectives (meaning ts rs).rows),
+    length-append (all_terms (meaning ts rs).objectives) (all_terms (meaning ts rs).rows),
+  )
 
-  pub few-weights : (j : ℕ) → get_or (take used ws) j 0 ≤ max_coef
-  few-weights = laid-weights is all l (omega (arith, few-halves)) (omega (arith, few-terms))
+  pub few-table : Table (meaning ts rs).variables (take (halves + 1) starts) (take used laid) (take halves needs)
+  few-table = laid-table is all l (omega (arith, few-halves)) (omega (arith, few-terms))
 
-  pub normal-is : {n : ℕ} → n ≡ (meaning ts rs).variables → {d₀ d dear₀ dear : List ℕ} → PricedAll ts rs n k d₀ d dear₀ dear → k * n ≤ length d → k * n ≤ length dear
-      → Normal ts rs n k (take (halves + 1) starts) (take used vs) (take used os) (take used ws) (take halves needs) (take (k * n) d) (take (k * n) dear)
-  normal-is {n} ne p dl el = record {
+  pub few-small : (j : ℕ) → j < length (take used laid) → weight (take used laid) j ≤ max_coef
+  few-small = laid-weights is all l
+
+  pub normal-is : (rows : Rows) → rows.n ≡ (meaning ts rs).variables → rows.starts.now ≡ take (halves + 1) starts → rows.terms.now ≡ take used laid → rows.needs.now ≡ take halves needs
+      → {costs : List Cost} → PricedAll ts rs rows.n k costs → Normal ts rs k rows costs
+  normal-is rows ne se te de p = record {
     is = is;
     variables = ne;
     objectives = ke;
-    table = subst (λ (v : ℕ). Table v (take (halves + 1) starts) (take used vs) (take used os) (take used ws) (take halves needs)) (sym ne) (laid_table is all l (omega (arith, few-halves)) (omega (arith, few-terms)));
-    rows_hold = laid-hold is all l (omega (arith, few-halves)) (omega (arith, few-terms));
-    rows_met = laid-met is all l (omega (arith, few-halves)) (omega (arith, few-terms));
-    costs = taken-costs p dl el;
-    priced = taken-priced p dl el;
+    rows_hold = λ a f. laid-hold is all l a (three (λ s w n. MeetsAt s w n (bit a)) (sym se) (sym te) (sym de) (meets-at rows (bit a) f));
+    rows_met = λ a f. at-meets rows (bit a) (three (λ s w n. MeetsAt s w n (bit a)) se te de (laid-met is all l a f));
+    priced = p;
   }

@@ -10,24 +10,25 @@ use native.Mathlib.Decide.{dec_lt}
 use lib.Dec.{eqb}
 use lib.IntN.{ℤ, pos, negsuc, nat_abs}
 use lib.ListN.{length, get_or, length-map, length-append, get_or-map, get_or-eq_default}
-use Rattle.charging.specs.Rows.{Terms, Table}
+use Rattle.charging.specs.declared.rows.Term.{Term as HalfTerm}
+use Rattle.charging.specs.Rows.{no_term, weight, Terms, Table}
 use Rattle.instance.specs.Limits.{max_coef, max_variable}
 use Rattle.instance.specs.Terms.{Term, TermOk}
 use Rattle.instance.specs.Rows.{Entry}
 use Rattle.instance.specs.Layout.{all_terms}
 use Rattle.normal.specs.declared.Half.{Half}
 use Rattle.normal.specs.Halves.{is_negative, off_side, half_of}
-use Rattle.normal.specs.Rows.{HalfRow, all_halves, starts_from}
+use Rattle.normal.specs.Rows.{HalfRow, terms_of, all_halves, starts_from}
 use Rattle.normal.specs.Grown.{if_wanted, half_row, half_rows_of, half_rows_all}
-use Rattle.normal.proofs.SpanLaws.{variables_of, offs_of, weights_of, starts-head}
+use Rattle.normal.proofs.SpanLaws.{starts-head}
 use Rattle.normal.proofs.GrownLaws.{all_halves-append}
 
 -- ---- halves in range
 
 pub record HalfOk (n : ℕ) (h : Half) : Type 0 where
-  pub variable : h.variable < n
-  pub off : h.off < 2
-  pub weight : h.weight ≤ max_coef
+  pub variable : h.term.variable < n
+  pub off : h.term.off < 2
+  pub weight : h.term.weight ≤ max_coef
 
 off-two : (l : ℤ) (b : Bool) → off_side l b < 2
 off-two (pos n) true = omega arith
@@ -68,7 +69,7 @@ rows_ok n (e ∷ es) f h m = ⊎_elim
 -- ---- by place
 
 no_half : Half
-no_half = record { variable = 0; off = 0; weight = 0; lost = 0 }
+no_half = record { term = no_term; lost = 0 }
 
 half_at : (hs : List Half) (k : ℕ) → k < length hs → Memᴰ (get_or hs k no_half) hs
 half_at [] k l = absurd (omega arith)
@@ -79,37 +80,23 @@ module _ (n : ℕ) (hs : List Half) (f : (h : Half) → Memᴰ h hs → HalfOk n
   at_ok : (k : ℕ) → k < length hs → HalfOk n (get_or hs k no_half)
   at_ok k l = f (get_or hs k no_half) (half_at hs k l)
 
-  variable-at : (k : ℕ) → get_or (variables_of hs) k 0 ≡ (get_or hs k no_half).variable
+  term_at : (k : ℕ) → get_or (terms_of hs) k no_term ≡ (get_or hs k no_half).term
   unfolding no_half
-  variable-at k = get_or-map (λ h. h.variable) hs k no_half
+  term_at k = get_or-map (λ h. h.term) hs k no_half
 
-  off_at : (k : ℕ) → get_or (offs_of hs) k 0 ≡ (get_or hs k no_half).off
-  unfolding no_half
-  off_at k = get_or-map (λ h. h.off) hs k no_half
+  inside : (k : ℕ) → k < length (terms_of hs) → k < length hs
+  inside k l = omega (arith, length-map hs (λ h. h.term))
 
-  weight-at : (k : ℕ) → get_or (weights_of hs) k 0 ≡ (get_or hs k no_half).weight
-  unfolding no_half
-  weight-at k = get_or-map (λ h. h.weight) hs k no_half
+  pub weights-coef : (k : ℕ) → k < length (terms_of hs) → weight (terms_of hs) k ≤ max_coef
+  weights-coef k l = omega (arith, ap (λ (t : HalfTerm). t.weight) (term_at k), (at_ok k (inside k l)).weight)
 
-  pub weights-coef : (k : ℕ) → get_or (weights_of hs) k 0 ≤ max_coef
-  weights-coef k = by (dec_lt k (length hs))
-    where
-      by : Dec (k < length hs) → get_or (weights_of hs) k 0 ≤ max_coef
-      by (yes l) = omega (arith, weight-at k, (at_ok k l).weight)
-      by (no l) = omega (arith, get_or-eq_default (weights_of hs) 0 {n = k} (omega (arith, length-map hs (λ h. h.weight))))
-
-  weight-small : (k : ℕ) → get_or (weights_of hs) k 0 ≤ 2 ^ 34
-  weight-small k = omega (arith, weights-coef k)
-
-  pub terms-table : n ≤ max_variable → length hs ≤ 2 ^ 24 → Terms n (variables_of hs) (offs_of hs) (weights_of hs)
+  pub terms-table : n ≤ max_variable → length hs ≤ 2 ^ 24 → Terms n (terms_of hs)
   terms-table few short = record {
-    offs = length-map hs (λ h. h.off) ∙ sym (length-map hs (λ h. h.variable));
-    ws = length-map hs (λ h. h.weight) ∙ sym (length-map hs (λ h. h.variable));
-    vars = λ k l. omega (arith, variable-at k, (at_ok k (omega (arith, length-map hs (λ h. h.variable)))).variable);
-    sides = λ k l. omega (arith, off_at k, (at_ok k (omega (arith, length-map hs (λ h. h.variable)))).off);
-    small = weight-small;
+    vars = λ k l. omega (arith, ap (λ (t : HalfTerm). t.variable) (term_at k), (at_ok k (inside k l)).variable);
+    sides = λ k l. omega (arith, ap (λ (t : HalfTerm). t.off) (term_at k), (at_ok k (inside k l)).off);
+    small = λ k l. omega (arith, weights-coef k l);
     few = few;
-    short = omega (arith, length-map hs (λ h. h.variable));
+    short = omega (arith, length-map hs (λ h. h.term));
   }
 
 -- ---- starts
@@ -133,11 +120,11 @@ starts-rise first (r ∷ rs) (suc k) h =
     up = omega arith
 
 pub rows-table : (n : ℕ) (hs : List HalfRow) → ((h : Half) → Memᴰ h (all_halves hs) → HalfOk n h) → n ≤ max_variable → length (all_halves hs) ≤ 2 ^ 24 → length hs ≤ 2 ^ 16
-    → Table n (starts_from 0 hs) (variables_of (all_halves hs)) (offs_of (all_halves hs)) (weights_of (all_halves hs)) (map (λ r. r.need) hs)
+    → Table n (starts_from 0 hs) (terms_of (all_halves hs)) (map (λ r. r.need) hs)
 rows-table n hs f few short rows = record {
-  terms = terms-table n (all_halves hs) f few short;
+  every = terms-table n (all_halves hs) f few short;
   starts = starts-length 0 hs ∙ ap (λ (m : ℕ). m + 1) (sym (length-map hs (λ r. r.need)));
   rising = λ k l. (starts-rise 0 hs k (omega (arith, length-map hs (λ r. r.need)))).0;
-  inside = λ k l. omega (arith, (starts-rise 0 hs k (omega (arith, length-map hs (λ r. r.need)))).1, length-map (all_halves hs) (λ h. h.variable));
+  inside = λ k l. omega (arith, (starts-rise 0 hs k (omega (arith, length-map hs (λ r. r.need)))).1, length-map (all_halves hs) (λ h. h.term));
   rows = omega (arith, length-map hs (λ r. r.need));
 }
