@@ -1,4 +1,4 @@
--- What reading concludes: the list in a file by what was decoded of it, and each answer.
+-- What reading concludes: where a value of a point stands, and what a sound file gives.
 use mathlib.Core.Path.{◌≡◌, ap₂}
 use mathlib.Core.List.{List}
 use Prim.Native.Nat.{ℕ, ◌+◌, ◌*◌, ◌/◌, ◌%◌, ◌≤◌, ◌<◌}
