@@ -1,17 +1,15 @@
 -- Blocks of a file as parts of it.
 use mathlib.Core.Path.{◌≡◌, refl, sym, ap, ap₂, ◌∙◌}
-use mathlib.Core.Bool.{Bool}
 use mathlib.Core.List.{List, [], ◌∷◌, ◌++◌, append_assoc}
-use Prim.Native.Nat.{ℕ, zero, suc, ◌+◌, ◌-◌, ◌*◌, ◌≤◌, ◌<◌}
+use Prim.Native.Nat.{ℕ, suc, ◌+◌, ◌-◌, ◌*◌, ◌≤◌, ◌<◌}
 use native.Mathlib.Omega.{arith}
 use lib.ListN.{length, get_or, set, take, drop, length-drop}
 use lib.Seq.{length-take-le, drop-cons, set_at, take_at, drop_at, drop-drop}
 use lib.IntN.{ℤ}
 use Rattle.points.specs.Lists.{values_put}
-use Rattle.instance.specs.Tests.{Decides}
 use Rattle.instance.specs.Lists.{tabulate}
 use Rattle.instance.proofs.ListLaws.{tabulate-length, tabulate-snoc, tabulate-append}
-use Rattle.files.specs.Layout.{block_at, count_in, points_of, value_in, values_of, values_in, HeadFits, PointsFit, BlockFits}
+use Rattle.files.specs.Layout.{block_at, value_in, values_of, values_in}
 
 -- The part of a file from `at` up to `end`, where that is block b.
 pub part-block : (f : List ℕ) (b at end : ℕ) → at ≡ b * 512 → end ≡ at + 512 → take (end - at) (drop at f) ≡ block_at f b

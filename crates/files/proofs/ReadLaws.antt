@@ -1,17 +1,11 @@
--- What reading concludes: the list in a file by what was decoded of it, and each answer.
-use mathlib.Core.Path.{◌≡◌, sym, ap₂, subst}
-use mathlib.Core.Bool.{Bool}
-use mathlib.Core.List.{List, ◌++◌}
+-- What reading concludes: where a value of a point stands, and what a sound file gives.
+use mathlib.Core.Path.{◌≡◌, ap₂}
+use mathlib.Core.List.{List}
 use Prim.Native.Nat.{ℕ, ◌+◌, ◌*◌, ◌/◌, ◌%◌, ◌≤◌, ◌<◌}
 use native.Mathlib.Omega.{arith}
-use lib.IntN.{ℤ}
 use lib.ListN.{length}
-use Rattle.instance.specs.Tests.{Decides}
-use Rattle.instance.proofs.ListLaws.{tabulate-length}
-use Rattle.points.specs.Lists.{Proper}
-use Rattle.points.proofs.ListLaws.{proper-append, proper-first}
 use Rattle.blocks.specs.Fields.{signed_of, u64_at}
-use Rattle.files.specs.Layout.{block_at, place_of, blocks_in, blocks_for, value_in, model_in, values_in, models_in}
+use Rattle.files.specs.Layout.{block_at, place_of, blocks_in, blocks_for, value_in}
 use Rattle.files.specs.Taken.{Sound, points}
 
 -- Value q of point k.

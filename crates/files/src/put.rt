@@ -46,10 +46,11 @@ fn set_point(block: &mut [u8], j: usize, point: Point)
     ensures { PointPut block.old j (candidate_of point) block.new }
 {
     let at = File::HEAD_LEN + j * File::POINT_LEN;
-    set_signed(block, at, point.values[0]);
-    set_signed(block, at + File::SECOND_AT, point.values[1]);
-    set_signed(block, at + File::THIRD_AT, point.values[2]);
-    set_signed(block, at + File::FOURTH_AT, point.values[3]);
+    let [first, second, third, fourth] = point.values;
+    set_signed(block, at, first);
+    set_signed(block, at + File::SECOND_AT, second);
+    set_signed(block, at + File::THIRD_AT, third);
+    set_signed(block, at + File::FOURTH_AT, fourth);
     set::<8>(block, at + File::MODEL_AT, point.model);
 }
 
