@@ -1,10 +1,9 @@
 -- What is fit is wanted (dominated by no gathered trade, and before the limit) or accounted for. So only what is wanted counts below a node: where
 -- nothing is, the stock stays; else it is below one of the children, and what was accounted for stays so.
-use mathlib.Core.Path.{◌≡◌, refl, subst, sym, ◌∙◌}
+use mathlib.Core.Path.{◌≡◌, refl, subst, sym}
 use mathlib.Core.Logic.{◌⊎◌, inl, inr, ⊎_elim}
-use mathlib.Core.Bool.{Bool, true, false}
 use mathlib.Core.List.{List}
-use Prim.Native.Nat.{ℕ, ◌+◌, ◌-◌, ◌^◌, ◌≤◌, ◌<◌}
+use Prim.Native.Nat.{ℕ, ◌-◌, ◌^◌, ◌≤◌, ◌<◌}
 use native.Mathlib.Omega.{arith}
 use lib.ListN.{length, get_or, take}
 use Rattle.std.specs.Prelude.{Option, Some, None}
@@ -19,7 +18,6 @@ use Rattle.narrowing.proofs.PartLaws.{cuts-then, cuts-less}
 use Rattle.forcing.specs.declared.goals.Goal.{Goal}
 use Rattle.forcing.specs.Goals.{Wanted}
 use Rattle.forcing.proofs.ForceLaws.{cost-up}
-use Rattle.finding.specs.Finding.{Tells}
 use Rattle.finding.proofs.FindLaws.{other, child-keep, number-completes}
 use Rattle.capping.specs.declared.trades.Trade.{Trade}
 use Rattle.capping.specs.declared.problems.Problem.{Problem}

@@ -1,10 +1,5 @@
-use Rattle.std.specs.Prelude.{Option, Some, None}
-use Rattle.charging.specs.declared.parts.Part.{Part}
-use mathlib.Core.List.{List}
-use Prim.Native.Nat.{ℕ, ◌<◌}
+use Rattle.std.specs.Prelude.{Some, None}
 use lib.ListN.{length}
-use Rattle.charging.specs.Rows.{Completes}
-use Rattle.charging.specs.Meets.{Meets}
 use Rattle.narrowing.specs.Parts.{Cuts}
 use Rattle.capping.specs.Caps.{vec}
 use Rattle.seeking.proofs.SeekLaws.{want-rows, want-ceilings, want-off, want-forces, below-front}
