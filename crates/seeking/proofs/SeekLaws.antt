@@ -41,9 +41,10 @@ module _ (problem : Problem) (listed gathered : List Trade) (c : ℕ) (limit : O
   pub want-off : Capped problem W q None → Cuts problem.rows.n W p None
   want-off e = cuts-then problem.rows.n W p q None a e
 
-  pub want-ceilings : (goal : Goal) (r : Option Part) → ((x : ℕ → ℕ) → Meets problem.rows x → ((v : ℕ) → v < problem.rows.n → x v < 2) → Wanted goal x)
-      → Cuts problem.rows.n (Wanted goal) q r → Cuts problem.rows.n W p r
-  want-ceilings goal r f e = cuts-then problem.rows.n W p q r a (cuts-less problem.rows.n (Wanted goal) W q r (λ x z u. f x u.meets z.bits) e)
+  -- rows, and then ceilings, which are asked of all that meets the rows
+  pub want-ceilings : (r : Part) (goal : Goal) (s : Option Part) → Leads problem.rows.n (Meets problem.rows) q r
+      → ((x : ℕ → ℕ) → Meets problem.rows x → ((v : ℕ) → v < problem.rows.n → x v < 2) → Wanted goal x) → Cuts problem.rows.n (Wanted goal) r s → Cuts problem.rows.n W p s
+  want-ceilings r goal s rows f e = cuts-then problem.rows.n W p r s (want-rows (Some r) rows) (cuts-less problem.rows.n (Wanted goal) W r s (λ x z u. f x u.meets z.bits) e)
 
   pub want-forces : (goal : Goal) (r : Option Part) → ((x : ℕ → ℕ) → Completes problem.rows.n (of q) x → W x → Wanted goal x)
       → Cuts problem.rows.n (Wanted goal) q r → Cuts problem.rows.n W p r
