@@ -8,12 +8,10 @@ use mathlib.Core.List.{List}
 use Prim.Native.Nat.{ℕ, zero, suc, ◌+◌, ◌^◌, ◌≤◌, ◌<◌}
 use native.Mathlib.Nat.{not-suc-le-zero}
 use native.Mathlib.Omega.{arith}
-use lib.ListN.{length, get_or, set, take}
-use lib.Seq.{get_or-set_same, get_or-set_other}
+use lib.ListN.{length, get_or, set}
 use mathlib.Core.Bool.{false}
 use Rattle.std.specs.Option.{is_some}
 use Rattle.std.specs.Prelude.{Option, Some, None}
-use Rattle.std.proofs.lemmas.List.{length-take, get_or-take}
 use Rattle.charging.specs.declared.parts.Part.{Part}
 use Rattle.charging.specs.Rows.{bit, of, Completes}
 use Rattle.charging.proofs.SumLaws.{eq-or, lt-or}
@@ -23,8 +21,8 @@ use Rattle.capping.specs.declared.problems.Problem.{Problem}
 use Rattle.capping.specs.Caps.{vec, less, at, row, no_trade, Within, Fresh}
 use Rattle.capping.proofs.OrderLaws.{lex-up, lex-mono}
 use Rattle.seeking.specs.declared.stocks.Stock.{Stock}
-use Rattle.seeking.specs.Stocks.{Same, Among, Least}
-use Rattle.seeking.specs.Gathers.{Fit, Known, Found, Held, Gathers}
+use Rattle.seeking.specs.Stocks.{Among, Least}
+use Rattle.seeking.specs.Gathers.{Fit, Known, Gathers}
 use Rattle.seeking.proofs.StockLaws.{lex-through, fresh-down, free-old, free_new, set-cases}
 use Rattle.lowering.specs.Smallest.{Smallest}
 use Rattle.advancing.specs.Next.{AtMost, IsNext, Ended}

@@ -65,7 +65,12 @@ pub fn gather(problem: &Problem<'_>, listed: &[Trade], points: &mut [Trade]) -> 
 }
 
 // Chooses from the stock; where it has none left but there was a limit, gathers anew.
-pub fn choose(problem: &Problem<'_>, listed: &[Trade], points: &mut [Trade], stock: Stock) -> Advance
+pub fn choose(
+    problem: &Problem<'_>,
+    listed: &[Trade],
+    points: &mut [Trade],
+    stock: Stock,
+) -> Advance
     requires room { 1 ≤ length points.old }
     requires stocked { Stocked problem.now listed.now points.old stock }
     ensures { Ready problem.now listed.now points.new result.stock result.next }

@@ -36,7 +36,12 @@ pub fn witness(problem: &Problem<'_>, costs: &Vector, model: u64) -> u64
 
 // The trade after the listed ones: its vector and its witness. In `points` are the gathered ones, before and after.
 // Rules out: a vector that a listed trade weakly dominates; a later vector; a witness that is not the smallest.
-pub fn next_point(problem: &Problem<'_>, listed: &[Trade], points: &mut [Trade], stock: Stock) -> Advance
+pub fn next_point(
+    problem: &Problem<'_>,
+    listed: &[Trade],
+    points: &mut [Trade],
+    stock: Stock,
+) -> Advance
     requires room { 1 ≤ length points.old }
     requires stocked { Stocked problem.now listed.now points.old stock }
     ensures next { Next problem.now listed.now result.next }

@@ -1,19 +1,18 @@
 -- R3: what comes before the limit is at most it in the first place, and as long as the bound is equal to it, in the next.
 -- R4: what no point weakly dominates is below each point in some place; where the bound is below a point in one place only, it is that one.
-use mathlib.Core.Path.{◌≡◌, refl, sym, subst, ◌∙◌}
+use mathlib.Core.Path.{◌≡◌, refl, sym, subst}
 use mathlib.Core.Logic.{⊎_elim}
 use mathlib.Core.List.{List}
-use Prim.Native.Nat.{ℕ, ◌+◌, ◌-◌, ◌*◌, ◌^◌, ◌≤◌, ◌<◌, min}
+use Prim.Native.Nat.{ℕ, ◌+◌, ◌-◌, ◌^◌, ◌≤◌, ◌<◌, min}
 use native.Mathlib.Omega.{arith}
 use lib.ListN.{length, get_or, set}
 use lib.Seq.{get_or-set_same, get_or-set_other}
-use borrow.Author.Count.{below_more}
 use Rattle.std.specs.Prelude.{Option, Some, None}
 use Rattle.charging.specs.declared.parts.Part.{Part}
 use Rattle.charging.specs.declared.rows.Cost.{Cost}
-use Rattle.charging.specs.Rows.{hit, of, gap, dear, Completes, cost, Costs, costs_of}
-use Rattle.charging.specs.Meets.{Meets, Charged}
-use Rattle.charging.proofs.SumLaws.{eq-or, lt-or, span-le, hit-le}
+use Rattle.charging.specs.Rows.{hit, gap, dear, cost, Costs, costs_of}
+use Rattle.charging.specs.Meets.{Meets}
+use Rattle.charging.proofs.SumLaws.{eq-or, span-le, hit-le}
 use Rattle.capping.specs.declared.trades.Trade.{Trade}
 use Rattle.capping.specs.declared.problems.Problem.{Problem}
 use Rattle.capping.specs.Caps.{less, at, row, Above, Below, Within, Fresh, Before, Seeks, Tight, Capped, Low, vec}

@@ -1,5 +1,5 @@
 -- Vectors in the order of document 01, 'The front' (objective 1, then 2, and so on), weak dominance by listed trades, and caps.
-use Rattle.std.specs.Prelude.{◌≡◌, ◌⊎◌, Option, Some, None, List, [], ℕ, zero, suc, ◌+◌, ◌^◌, ◌≤◌, ◌<◌, length, get_or}
+use Rattle.std.specs.Prelude.{◌≡◌, ◌⊎◌, Option, Some, None, List, [], ℕ, zero, suc, ◌+◌, ◌≤◌, ◌<◌, length, get_or}
 use Rattle.charging.specs.declared.parts.Part.{Part}
 use Rattle.charging.specs.Rows.{of, Completes, cost, costs_of}
 use Rattle.charging.specs.Meets.{Meets}

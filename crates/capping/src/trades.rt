@@ -12,5 +12,8 @@ pub struct Trade {
 
 impl Trade {
     // Nothing yet: what fills the room for trades.
-    pub const NONE: Trade = Trade { costs: [0; 4], model: 0 };
+    pub const NONE: Trade = Trade {
+        costs: [0; 4],
+        model: 0,
+    };
 }

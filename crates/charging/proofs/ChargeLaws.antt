@@ -3,10 +3,10 @@
 -- R5: let the terms that need no charge give too little for the row. A completion that meets the row has some other term helping; its variable stands
 -- on its dear side with something left to charge. Taking m off each such variable (m at most what is left at any of them) and adding m to the
 -- bound keeps: bound + what is left on dear sides ≤ cost, for every completion that meets the rows.
-use mathlib.Core.Path.{◌≡◌, sym, subst, ◌∙◌}
+use mathlib.Core.Path.{◌≡◌, ◌∙◌}
 use mathlib.Core.Logic.{⊎_elim}
 use mathlib.Core.List.{List}
-use Prim.Native.Nat.{ℕ, ◌+◌, ◌-◌, ◌*◌, ◌^◌, ◌≤◌, ◌<◌}
+use Prim.Native.Nat.{ℕ, ◌+◌, ◌^◌, ◌≤◌, ◌<◌}
 use native.Mathlib.Nat.{le_refl, not-suc-le-zero, zero-add}
 use native.Mathlib.Omega.{arith}
 use lib.ListN.{length, get_or, set}
@@ -15,7 +15,6 @@ use borrow.Author.Count.{below_more}
 use Rattle.charging.specs.declared.rows.Term.{Term}
 use Rattle.charging.specs.declared.rows.Cost.{Cost}
 use Rattle.charging.specs.declared.rows.Rows.{Rows}
-use Rattle.charging.specs.declared.parts.Part.{Part}
 use Rattle.charging.specs.Rows.{span, hit, term, variable, side, weight, given, gap, dear, Terms, Completes, cost, rest, spare_at, Paid, Least, Costs, Owed}
 use Rattle.charging.specs.Meets.{count, need, terms_of, left, Meets, Charged, Step}
 use Rattle.charging.proofs.SumLaws.{sum-mono, sum-drop, sum-add, sum-some, one_of, eq-or, hit-eq, hit-ne, hit-le, miss-eq, miss-ne, miss-le, spare-free, spare-paid}

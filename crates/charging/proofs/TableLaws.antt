@@ -3,13 +3,13 @@ use mathlib.Core.Path.{◌≡◌, sym, ap, subst, ◌∙◌}
 use mathlib.Core.List.{List}
 use Prim.Native.Nat.{ℕ, ◌+◌, ◌-◌, ◌*◌, ◌^◌, ◌≤◌, ◌<◌}
 use native.Mathlib.Omega.{arith}
-use lib.ListN.{length, get_or, take, drop}
+use lib.ListN.{length, get_or, drop}
 use Rattle.std.specs.Prelude.{slice_range}
 use Rattle.std.proofs.lemmas.List.{length-take-le, length-drop, get_or-take, get_or-drop}
 use Rattle.charging.specs.declared.rows.Term.{Term}
 use Rattle.charging.specs.declared.rows.Cost.{Cost}
 use Rattle.charging.specs.declared.rows.Rows.{Rows}
-use Rattle.charging.specs.Rows.{miss, span, term, given, no_term, no_cost, Terms, Costs, Objectives, costs_of}
+use Rattle.charging.specs.Rows.{miss, span, term, no_term, no_cost, Terms, costs_of}
 use Rattle.charging.specs.Meets.{count, terms_of, left}
 use Rattle.charging.proofs.SumLaws.{span-same}
 

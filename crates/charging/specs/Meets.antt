@@ -1,5 +1,5 @@
 -- Rows as one value, what meets them, and what charging promises.
-use Rattle.std.specs.Prelude.{List, ℕ, ◌+◌, ◌*◌, ◌^◌, ◌≤◌, ◌<◌, length, get_or, slice_range}
+use Rattle.std.specs.Prelude.{List, ℕ, ◌+◌, ◌^◌, ◌≤◌, ◌<◌, length, get_or, slice_range}
 use Rattle.charging.specs.declared.rows.Term.{Term}
 use Rattle.charging.specs.declared.rows.Cost.{Cost}
 use Rattle.charging.specs.declared.rows.Rows.{Rows}

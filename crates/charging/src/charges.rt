@@ -62,7 +62,14 @@ pub fn charge_row(rows: &Rows<'_>, costs: &[Cost], p: Part, res: &mut [u64], h: 
 }
 
 // Charges the i-th row, unless it is met by a variable that is set, or by a free one.
-pub fn charge_turn(rows: &Rows<'_>, costs: &[Cost], p: Part, res: &mut [u64], i: usize, free: u64) -> Taken
+pub fn charge_turn(
+    rows: &Rows<'_>,
+    costs: &[Cost],
+    p: Part,
+    res: &mut [u64],
+    i: usize,
+    free: u64,
+) -> Taken
     requires { Costs rows.now.n costs.now × (rows.now.n ≤ length res.old) × (i < count rows.now) }
     ensures { Step rows.now costs.now (of p) res.old res.new result.by }
 {

@@ -2,6 +2,8 @@
 ghost use Rattle.std.specs.Prelude.{◌≡◌, ◌+◌, ◌*◌, ◌≤◌, length};
 ghost use Rattle.charging.specs.Rows.{Table, costs_of};
 
+use crate::parts::Part;
+
 // A term gives its weight unless its variable stands at `off`.
 #[derive(Clone, Copy, Debug, PartialEq, Eq)]
 pub struct Term {
@@ -62,28 +64,21 @@ impl<'a> Rows<'a> {
 
     // Whether one of the variables of `one`, at 1, or of `zero`, at 0, meets the i-th row alone.
     pub fn alone(&self, i: usize, one: u64, zero: u64) -> bool {
-        match self.turns.get(i) {
-            Some(turn) => (turn.one & one) | (turn.zero & zero) != 0,
-            None => false,
-        }
+        self.turns
+            .get(i)
+            .is_some_and(|turn| (turn.one & one) | (turn.zero & zero) != 0)
     }
 
     // Whether two of the variables that are not in `set` can each meet the i-th row alone.
     fn choice(&self, i: usize, set: u64) -> bool {
-        match self.turns.get(i) {
-            Some(turn) => {
-                let open = (turn.one | turn.zero) & !set;
-                open != 0 && open & (open - 1) != 0
-            }
-            None => false,
-        }
+        self.turns.get(i).is_some_and(|turn| {
+            let open = (turn.one | turn.zero) & !set;
+            open != 0 && open & (open - 1) != 0
+        })
     }
-}
 
-// Hints on a row and a part.
-impl Rows<'_> {
     // Whether the i-th row forces nothing in p: a variable that is set meets it, or two that are unset can.
-    pub fn idle(&self, i: usize, p: crate::parts::Part) -> bool {
+    pub fn idle(&self, i: usize, p: Part) -> bool {
         self.alone(i, p.one, p.set ^ p.one) || self.choice(i, p.set)
     }
 }

@@ -39,7 +39,11 @@ impl Term {
     pub fn paid(self, m: u64, dear: u8, left: u64) -> u64
         ensures { (result ≤ left) × ((dear ≡ self.off → ⊥) → result ≤ left - m) }
     {
-        if dear == self.off { left } else { left.saturating_sub(m) }
+        if dear == self.off {
+            left
+        } else {
+            left.saturating_sub(m)
+        }
     }
 }
 

@@ -10,12 +10,12 @@ use Rattle.charging.specs.declared.parts.Part.{Part}
 use Rattle.charging.specs.Rows.{bit, of, Completes, cost}
 use Rattle.charging.proofs.SumLaws.{eq-or}
 use Rattle.charging.proofs.BitLaws.{bit-two, seen-unset, seen-set}
-use Rattle.narrowing.specs.Parts.{Good, Put, Leads, Hopeless}
+use Rattle.narrowing.specs.Parts.{Put, Leads, Hopeless}
 use Rattle.narrowing.proofs.PartLaws.{narrows-back}
 use Rattle.forcing.specs.declared.goals.Goal.{Goal}
 use Rattle.forcing.specs.Goals.{many, objective, cap_of}
 use Rattle.forcing.proofs.ForceLaws.{cost-up}
-use Rattle.finding.specs.Finding.{Branch, Found, Finds, Tells, Cheap}
+use Rattle.finding.specs.Finding.{Branch, Finds, Tells, Cheap}
 
 -- of two sides, what is not the one is the other
 pub other : (a b : ℕ) → a < 2 → b < 2 → (a ≡ b → ⊥) → a ≡ 1 - b

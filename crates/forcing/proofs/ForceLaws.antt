@@ -6,18 +6,16 @@ use Prim.Native.Nat.{ℕ, ◌+◌, ◌-◌, ◌≤◌, ◌<◌}
 use native.Mathlib.Nat.{le_refl}
 use native.Mathlib.Omega.{arith}
 use lib.ListN.{length, get_or}
-use Rattle.std.specs.Prelude.{Option}
 use Rattle.charging.specs.declared.parts.Part.{Part}
 use Rattle.charging.specs.declared.rows.Cost.{Cost}
 use Rattle.charging.specs.declared.rows.Rows.{Rows}
 use Rattle.charging.specs.Rows.{hit, of, gap, dear, Completes, cost, Costs}
-use Rattle.charging.specs.Meets.{Meets, Charged}
+use Rattle.charging.specs.Meets.{Charged}
 use Rattle.charging.proofs.SumLaws.{sum-mono, hit-ne, eq-or}
 use Rattle.charging.proofs.ChargeLaws.{rest-one}
-use Rattle.narrowing.specs.Parts.{Leads, Cuts, Maybe}
-use Rattle.narrowing.proofs.PartLaws.{maybe-leads, cuts-then, cuts-less}
-use Rattle.forcing.specs.declared.goals.Goal.{Goal}
-use Rattle.forcing.specs.Goals.{many, objective, cap_of, Under, Wanted}
+use Rattle.narrowing.specs.Parts.{Leads, Maybe}
+use Rattle.narrowing.proofs.PartLaws.{maybe-leads}
+use Rattle.forcing.specs.Goals.{Under}
 
 -- what is sure is a lower bound
 pub cost-up : (n : ℕ) (y : ℕ → ℕ) (costs : List Cost) → Costs n costs → (x : ℕ → ℕ) → Completes n y x → cost costs y ≤ cost costs x

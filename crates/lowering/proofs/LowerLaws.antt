@@ -2,7 +2,7 @@
 -- a wanted one with v off under the same higher bits takes its place; and where there is none, v on is the least that these higher bits allow.
 use mathlib.Core.Path.{◌≡◌, refl, ap, sym, ◌∙◌}
 use mathlib.Core.Logic.{⊎_elim}
-use Prim.Native.Nat.{ℕ, ◌+◌, ◌-◌, ◌*◌, ◌/◌, ◌^◌, ◌≤◌, ◌<◌}
+use Prim.Native.Nat.{ℕ, ◌+◌, ◌-◌, ◌/◌, ◌^◌, ◌≤◌, ◌<◌}
 use native.Mathlib.Nat.{div-eq_of_lt, div-one}
 use native.Mathlib.Omega.{arith}
 use Rattle.charging.specs.declared.parts.Part.{Part}
@@ -16,7 +16,6 @@ use Rattle.forcing.specs.Goals.{objective, Wanted}
 use Rattle.forcing.proofs.ForceLaws.{cost-up}
 use Rattle.lowering.specs.Smallest.{Smallest, Lowered}
 use Rattle.lowering.proofs.NumberLaws.{number_step, number-bits, number_same}
-
 
 -- what a wanted completion says of the variables that y sets
 pub wanted-down : (goal : Goal) (y x : ℕ → ℕ) → Completes goal.rows.n y x → Wanted goal x → Wanted goal y

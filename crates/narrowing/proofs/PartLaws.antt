@@ -2,7 +2,6 @@
 use mathlib.Core.Path.{◌≡◌, refl, ap, sym, ◌∙◌}
 use mathlib.Core.Logic.{⊎_elim}
 use Prim.Native.Nat.{ℕ, ◌+◌, ◌-◌, ◌≤◌, ◌<◌}
-use native.Mathlib.Nat.{le_refl}
 use native.Mathlib.Omega.{arith}
 use lib.ListN.{length}
 use Rattle.std.specs.Prelude.{Option, Some, None}
@@ -13,7 +12,7 @@ use Rattle.charging.specs.Meets.{count, need, terms_of, left, Meets}
 use Rattle.charging.proofs.SumLaws.{eq-or}
 use Rattle.charging.proofs.TableLaws.{row_terms}
 use Rattle.charging.proofs.ChargeLaws.{forced}
-use Rattle.narrowing.specs.Parts.{Good, Put, Narrows, Leads, Cuts, Maybe}
+use Rattle.narrowing.specs.Parts.{Put, Narrows, Leads, Cuts, Maybe}
 
 pub two-of : (a b : ℕ) → a < 2 → b < 2 → (a ≡ 1 - b → ⊥) → a ≡ b
 two-of a b l m f = ⊎_elim (λ e. e) (λ e. absurd (f (omega (arith, e)))) (eq-or a b)

@@ -2,7 +2,7 @@
 use mathlib.Core.Path.{◌≡◌, refl, sym, subst, ◌∙◌}
 use mathlib.Core.Logic.{⊎_elim}
 use Prim.Native.Nat.{ℕ, suc, ◌+◌, ◌-◌, ◌*◌, ◌%◌, ◌^◌, ◌≤◌, ◌<◌, zero}
-use native.Mathlib.Nat.{le_refl, zero-add, one-mul, pow-succ', two-mul, mod-eq_of_lt}
+use native.Mathlib.Nat.{le_refl, one-mul, pow-succ', two-mul, mod-eq_of_lt}
 use lib.Pow.{pow_mono, pow_pos}
 use native.Mathlib.Omega.{arith}
 use Rattle.charging.specs.declared.parts.Part.{Part}

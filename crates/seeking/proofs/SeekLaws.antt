@@ -1,10 +1,9 @@
 -- What is fit is wanted (dominated by no gathered trade, and before the limit) or accounted for. So only what is wanted counts below a node: where
 -- nothing is, the stock stays; else it is below one of the children, and what was accounted for stays so.
-use mathlib.Core.Path.{◌≡◌, refl, subst, sym, ◌∙◌}
+use mathlib.Core.Path.{◌≡◌, refl, subst, sym}
 use mathlib.Core.Logic.{◌⊎◌, inl, inr, ⊎_elim}
-use mathlib.Core.Bool.{Bool, true, false}
 use mathlib.Core.List.{List}
-use Prim.Native.Nat.{ℕ, ◌+◌, ◌-◌, ◌^◌, ◌≤◌, ◌<◌}
+use Prim.Native.Nat.{ℕ, ◌-◌, ◌^◌, ◌≤◌, ◌<◌}
 use native.Mathlib.Omega.{arith}
 use lib.ListN.{length, get_or, take}
 use Rattle.std.specs.Prelude.{Option, Some, None}
@@ -19,7 +18,6 @@ use Rattle.narrowing.proofs.PartLaws.{cuts-then, cuts-less}
 use Rattle.forcing.specs.declared.goals.Goal.{Goal}
 use Rattle.forcing.specs.Goals.{Wanted}
 use Rattle.forcing.proofs.ForceLaws.{cost-up}
-use Rattle.finding.specs.Finding.{Tells}
 use Rattle.finding.proofs.FindLaws.{other, child-keep, number-completes}
 use Rattle.capping.specs.declared.trades.Trade.{Trade}
 use Rattle.capping.specs.declared.problems.Problem.{Problem}
@@ -43,9 +41,10 @@ module _ (problem : Problem) (listed gathered : List Trade) (c : ℕ) (limit : O
   pub want-off : Capped problem W q None → Cuts problem.rows.n W p None
   want-off e = cuts-then problem.rows.n W p q None a e
 
-  pub want-ceilings : (goal : Goal) (r : Option Part) → ((x : ℕ → ℕ) → Meets problem.rows x → ((v : ℕ) → v < problem.rows.n → x v < 2) → Wanted goal x)
-      → Cuts problem.rows.n (Wanted goal) q r → Cuts problem.rows.n W p r
-  want-ceilings goal r f e = cuts-then problem.rows.n W p q r a (cuts-less problem.rows.n (Wanted goal) W q r (λ x z u. f x u.meets z.bits) e)
+  -- rows, and then ceilings, which are asked of all that meets the rows
+  pub want-ceilings : (r : Part) (goal : Goal) (s : Option Part) → Leads problem.rows.n (Meets problem.rows) q r
+      → ((x : ℕ → ℕ) → Meets problem.rows x → ((v : ℕ) → v < problem.rows.n → x v < 2) → Wanted goal x) → Cuts problem.rows.n (Wanted goal) r s → Cuts problem.rows.n W p s
+  want-ceilings r goal s rows f e = cuts-then problem.rows.n W p r s (want-rows (Some r) rows) (cuts-less problem.rows.n (Wanted goal) W r s (λ x z u. f x u.meets z.bits) e)
 
   pub want-forces : (goal : Goal) (r : Option Part) → ((x : ℕ → ℕ) → Completes problem.rows.n (of q) x → W x → Wanted goal x)
       → Cuts problem.rows.n (Wanted goal) q r → Cuts problem.rows.n W p r

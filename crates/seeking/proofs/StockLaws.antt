@@ -10,14 +10,14 @@ use native.Mathlib.Omega.{arith}
 use lib.ListN.{length, get_or, set, take}
 use lib.Seq.{get_or-set_same, get_or-set_other}
 use borrow.Author.Count.{below_more}
-use Rattle.std.specs.Prelude.{Option, Some}
+use Rattle.std.specs.Prelude.{Some}
 use Rattle.std.proofs.lemmas.List.{length-take-le, get_or-take}
 use Rattle.charging.proofs.SumLaws.{eq-or, lt-or}
 use Rattle.capping.specs.declared.trades.Trade.{Trade}
 use Rattle.capping.specs.Caps.{less, at, row, no_trade, Within, Fresh, Before}
 use Rattle.capping.proofs.OrderLaws.{lex-trans, lex-up}
 use Rattle.seeking.specs.declared.stocks.Stock.{Stock}
-use Rattle.seeking.specs.Stocks.{Accounted, Limited, Backed, Among, Least, Greatest, Keeps}
+use Rattle.seeking.specs.Stocks.{Limited, Among, Least, Greatest, Keeps}
 
 -- ---- less
 

@@ -10,7 +10,13 @@ use capping::{Problem, Trade};
 use charging::Part;
 
 // A complete q is gathered, if it is fit and not accounted for.
-pub fn leaf(problem: &Problem<'_>, listed: &[Trade], points: &mut [Trade], q: Part, stock: Stock) -> Stock
+pub fn leaf(
+    problem: &Problem<'_>,
+    listed: &[Trade],
+    points: &mut [Trade],
+    q: Part,
+    stock: Stock,
+) -> Stock
     requires part { Completes problem.now.rows.n (of q) (of q) × Good problem.now.rows.n q }
     requires room { 1 ≤ length points.old }
     requires held { Held (Found problem.now listed.now) problem.now.count points.old stock }

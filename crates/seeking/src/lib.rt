@@ -60,7 +60,13 @@ pub fn reduce(
 }
 
 // Gathers what is fit below p.
-pub fn search(problem: &Problem<'_>, listed: &[Trade], points: &mut [Trade], p: Part, stock: Stock) -> Stock
+pub fn search(
+    problem: &Problem<'_>,
+    listed: &[Trade],
+    points: &mut [Trade],
+    p: Part,
+    stock: Stock,
+) -> Stock
     requires part { Good problem.now.rows.n p }
     requires room { 1 ≤ length points.old }
     requires held { Held (Found problem.now listed.now) problem.now.count points.old stock }
@@ -75,5 +81,11 @@ pub fn search(problem: &Problem<'_>, listed: &[Trade], points: &mut [Trade], p: 
     };
     let b = finding::cheaper(n, problem.costs, problem.count, v);
     let first = search(problem, listed, points, narrowing::put(n, q, v, b), stock);
-    search(problem, listed, points, narrowing::put(n, q, v, 1 - b), first)
+    search(
+        problem,
+        listed,
+        points,
+        narrowing::put(n, q, v, 1 - b),
+        first,
+    )
 }

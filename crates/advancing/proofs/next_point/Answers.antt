@@ -7,13 +7,6 @@ pub returns-in_default-clause-next : goal.returns-in_default-clause-next
 returns-in_default-clause-next c =
     rw (c.in_default.is, Next) (next-none c.args.problem.now c.args.listed.now _ c.choose-choice.result.stock (rw c.in_default.is at c.choose-choice.ensures))
 
-pub witness-smallest-requires : goal.witness-smallest-requires
-witness-smallest-requires c =
-    let P = c.args.problem.now in
-    let r = rw c.in-Some.is at c.choose-choice.ensures in
-    let stock = c.choose-choice.result.stock in
-    (next-wanted P c.args.listed.now _ stock c.in-Some.trade r, next-fits P c.args.listed.now _ stock c.in-Some.trade r)
-
 pub returns-clause-next : goal.returns-clause-next
 returns-clause-next c =
     next-some c.args.problem.now c.args.listed.now _ c.choose-choice.result.stock c.in-Some.trade (rw c.in-Some.is at c.choose-choice.ensures)

@@ -8,12 +8,6 @@ use Rattle.advancing.specs.Next.{AtMost}
 use Rattle.advancing.proofs.NextLaws.{smallest-same}
 use Rattle.advancing.proofs.witness.Goals as goal
 
-pub smallest-requires : goal.smallest-requires
-smallest-requires c =
-    let P = c.args.problem.now in
-    let w = c.requires.0 in
-    (record { meets = w.meets; under = below-front P.count c.args.costs.now (vec P (bit c.args.model)) w.below }, c.requires.1)
-
 pub returns : goal.returns
 returns c =
     let P = c.args.problem.now in

@@ -8,9 +8,6 @@ use Rattle.finding.proofs.FindLaws.{number-completes}
 use Rattle.lowering.proofs.LowerLaws.{wanted-down, lowered-off, lowered-found, lowered-on}
 use Rattle.lowering.proofs.settle.Goals as goal
 
-pub put-part-requires : goal.put-part-requires
-put-part-requires c = (c.requires.1.good, c.requires.0, c.args.goal.now.rows.table.every.few, omega arith, c.requires.1.below c.args.v (omega arith))
-
 pub returns-then-known-v-eq0 : goal.returns-then-known-v-eq0
 returns-then-known-v-eq0 c =
     let g = c.args.goal.now in
@@ -25,9 +22,6 @@ returns-in-Some c =
     let f = c.in-Some.ensures in
     let m = number-completes g.rows.n (of c.put-part.result) r f.completes in
     lowered-found g.rows.n (Wanted g) c.args.v k.part k.number c.requires.1 0 _ c.put-part.ensures refl c.requires.0 r.one f.fits m.0 (wanted-down g (bit r.one) (of r) m.1 f.wanted)
-
-pub put-requires : goal.put-requires
-put-requires c = (c.requires.1.good, c.requires.0, c.args.goal.now.rows.table.every.few, omega arith, c.requires.1.below c.args.v (omega arith))
 
 pub returns : goal.returns
 returns c =

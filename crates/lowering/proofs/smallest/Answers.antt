@@ -4,11 +4,6 @@ use Rattle.forcing.specs.Goals.{Wanted}
 use Rattle.lowering.proofs.LowerLaws.{lowered-start, lowered-end}
 use Rattle.lowering.proofs.smallest.Goals as goal
 
-pub loop-v-init : goal.loop-v-init
-loop-v-init c =
-    let g = c.args.goal.now in
-    lowered-start g.rows.n (Wanted g) _ c.args.a c.blank.ensures.0 c.blank.ensures.1 c.requires.0 c.requires.1
-
 pub returns : goal.returns
 returns c =
     let g = c.args.goal.now in

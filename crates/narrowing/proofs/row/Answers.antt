@@ -1,8 +1,7 @@
 use native.Mathlib.Omega.{arith}
-use mathlib.Core.Path.{◌≡◌, ap, ◌∙◌}
 use Prim.Native.Nat.{◌<◌, ◌+◌, ◌≤◌}
-use Rattle.charging.specs.Rows.{of, given}
-use Rattle.charging.specs.Meets.{Meets, need, left}
+use Rattle.charging.specs.Rows.{of}
+use Rattle.charging.specs.Meets.{need, left}
 use Rattle.charging.proofs.ChargeLaws.{hopeless}
 use Rattle.narrowing.specs.Parts.{Cuts}
 use Rattle.narrowing.proofs.PartLaws.{row_more}

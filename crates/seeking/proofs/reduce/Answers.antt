@@ -1,30 +1,23 @@
-use Rattle.std.specs.Prelude.{Option, Some, None}
-use Rattle.charging.specs.declared.parts.Part.{Part}
-use mathlib.Core.List.{List}
-use Prim.Native.Nat.{ℕ, ◌<◌}
 use lib.ListN.{length}
-use Rattle.charging.specs.Rows.{Completes}
-use Rattle.charging.specs.Meets.{Meets}
+use Rattle.std.specs.Prelude.{Some, None}
 use Rattle.narrowing.specs.Parts.{Cuts}
 use Rattle.capping.specs.Caps.{vec}
-use Rattle.seeking.proofs.SeekLaws.{want-rows, want-ceilings, want-off, want-forces, below-front}
+use Rattle.seeking.proofs.SeekLaws.{want-ceilings, want-off, want-forces, below-front}
 use Rattle.seeking.proofs.reduce.Goals as goal
 
 pub returns-in_err-s : goal.returns-in_err-s
 returns-in_err-s c =
     let P = c.args.problem.now in
     let g = c.args.gathered.now in
-    let rows = want-rows P c.args.listed.now g (length g) c.args.limit c.args.p c.loop-r.q c.loop-r.invariant (Some c.in_ok-r.r) c.in_ok-r.ensures in
     rw (c.from_residual-in_err-s.ensures, Cuts)
-    (want-ceilings P c.args.listed.now g (length g) c.args.limit c.args.p c.in_ok-r.r rows _ None
+    (want-ceilings P c.args.listed.now g (length g) c.args.limit c.args.p c.loop-r.q c.loop-r.invariant c.in_ok-r.r _ None c.in_ok-r.ensures
     (λ x m bits. record { meets = m; under = λ i l. P.ceiled.bound i l x bits m }) c.in_err-s.ensures)
 
 pub returns-in_err-cap : goal.returns-in_err-cap
 returns-in_err-cap c =
     let P = c.args.problem.now in
     let g = c.args.gathered.now in
-    let rows = want-rows P c.args.listed.now g (length g) c.args.limit c.args.p c.loop-r.q c.loop-r.invariant (Some c.in_ok-r.r) c.in_ok-r.ensures in
-    let held = want-ceilings P c.args.listed.now g (length g) c.args.limit c.args.p c.in_ok-r.r rows _ (Some c.in_ok-s.s)
+    let held = want-ceilings P c.args.listed.now g (length g) c.args.limit c.args.p c.loop-r.q c.loop-r.invariant c.in_ok-r.r _ (Some c.in_ok-s.s) c.in_ok-r.ensures
     (λ x m bits. record { meets = m; under = λ i l. P.ceiled.bound i l x bits m }) c.in_ok-s.ensures in
     rw (c.from_residual-in_err-cap.ensures, Cuts) (want-off P c.args.listed.now g (length g) c.args.limit c.args.p c.in_ok-s.s held c.in_err-cap.ensures)
 
@@ -32,29 +25,17 @@ pub returns-in_err-q : goal.returns-in_err-q
 returns-in_err-q c =
     let P = c.args.problem.now in
     let g = c.args.gathered.now in
-    let rows = want-rows P c.args.listed.now g (length g) c.args.limit c.args.p c.loop-r.q c.loop-r.invariant (Some c.in_ok-r.r) c.in_ok-r.ensures in
-    let held = want-ceilings P c.args.listed.now g (length g) c.args.limit c.args.p c.in_ok-r.r rows _ (Some c.in_ok-s.s)
+    let held = want-ceilings P c.args.listed.now g (length g) c.args.limit c.args.p c.loop-r.q c.loop-r.invariant c.in_ok-r.r _ (Some c.in_ok-s.s) c.in_ok-r.ensures
     (λ x m bits. record { meets = m; under = λ i l. P.ceiled.bound i l x bits m }) c.in_ok-s.ensures in
     rw (c.from_residual-in_err-q.ensures, Cuts)
     (want-forces P c.args.listed.now g (length g) c.args.limit c.args.p c.in_ok-s.s held _ None
     (λ x z u. record { meets = u.meets; under = below-front P.count c.in_ok-cap.cap (vec P x) (c.in_ok-cap.ensures x z u) }) c.in_err-q.ensures)
 
-pub returns-then-q-before : goal.returns-then-q-before
-returns-then-q-before c =
-    let P = c.args.problem.now in
-    let g = c.args.gathered.now in
-    let rows = want-rows P c.args.listed.now g (length g) c.args.limit c.args.p c.loop-r.q c.loop-r.invariant (Some c.in_ok-r.r) c.in_ok-r.ensures in
-    let held = want-ceilings P c.args.listed.now g (length g) c.args.limit c.args.p c.in_ok-r.r rows _ (Some c.in_ok-s.s)
-    (λ x m bits. record { meets = m; under = λ i l. P.ceiled.bound i l x bits m }) c.in_ok-s.ensures in
-    want-forces P c.args.listed.now g (length g) c.args.limit c.args.p c.in_ok-s.s held _ (Some c.in_ok-q.q)
-    (λ x z u. record { meets = u.meets; under = below-front P.count c.in_ok-cap.cap (vec P x) (c.in_ok-cap.ensures x z u) }) c.in_ok-q.ensures
-
 pub loop-r-preserved : goal.loop-r-preserved
 loop-r-preserved c =
     let P = c.args.problem.now in
     let g = c.args.gathered.now in
-    let rows = want-rows P c.args.listed.now g (length g) c.args.limit c.args.p c.loop-r.q c.loop-r.invariant (Some c.in_ok-r.r) c.in_ok-r.ensures in
-    let held = want-ceilings P c.args.listed.now g (length g) c.args.limit c.args.p c.in_ok-r.r rows _ (Some c.in_ok-s.s)
+    let held = want-ceilings P c.args.listed.now g (length g) c.args.limit c.args.p c.loop-r.q c.loop-r.invariant c.in_ok-r.r _ (Some c.in_ok-s.s) c.in_ok-r.ensures
     (λ x m bits. record { meets = m; under = λ i l. P.ceiled.bound i l x bits m }) c.in_ok-s.ensures in
     want-forces P c.args.listed.now g (length g) c.args.limit c.args.p c.in_ok-s.s held _ (Some c.in_ok-q.q)
     (λ x z u. record { meets = u.meets; under = below-front P.count c.in_ok-cap.cap (vec P x) (c.in_ok-cap.ensures x z u) }) c.in_ok-q.ensures

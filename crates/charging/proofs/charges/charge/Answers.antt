@@ -1,6 +1,6 @@
 use native.Mathlib.Omega.{arith}
 use Rattle.charging.specs.Rows.{of}
-use Rattle.charging.proofs.ChargeLaws.{charge-none, charge-more}
+use Rattle.charging.proofs.ChargeLaws.{charge-none}
 use Rattle.charging.proofs.charges.charge.Goals as goal
 
 pub loop-i-init : goal.loop-i-init

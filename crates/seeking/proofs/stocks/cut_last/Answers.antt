@@ -2,7 +2,7 @@
 use native.Mathlib.Omega.{arith}
 use mathlib.Core.Path.{refl}
 use Prim.Native.Nat.{◌<◌}
-use lib.ListN.{length, length-set}
+use lib.ListN.{length-set}
 use Rattle.seeking.proofs.StockLaws.{front_length, greatest-front, keeps-last, keeps-out}
 use Rattle.seeking.proofs.stocks.cut_last.Goals as goal
 

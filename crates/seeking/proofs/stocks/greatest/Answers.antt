@@ -1,4 +1,3 @@
-use native.Mathlib.Omega.{arith}
 use Rattle.seeking.proofs.StockLaws.{greatest-new, greatest-old}
 use Rattle.seeking.proofs.stocks.greatest.Goals.{then-earlier, else-earlier}
 use Rattle.seeking.proofs.stocks.greatest.Goals as goal

@@ -1,4 +1,3 @@
-use native.Mathlib.Omega.{arith}
 use Rattle.seeking.proofs.StockLaws.{least-new, least-old}
 use Rattle.seeking.proofs.stocks.least.Goals.{then-earlier, else-earlier}
 use Rattle.seeking.proofs.stocks.least.Goals as goal
