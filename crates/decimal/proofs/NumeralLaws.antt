@@ -14,7 +14,6 @@ use lib.ListN.{length, get_or, drop}
 use lib.Seq.{drop-cons, drop-length}
 use Rattle.decimal.specs.Decimal.{digit_byte, is_digit, all_digits, digits_value, is_numeral, max_digits, read_numeral}
 
-
 -- ---- both of two tests
 
 pub and_left : (a b : Bool) → a && b ≡ true → a ≡ true

@@ -46,9 +46,7 @@ impl Term {
         ensures { Decides result (TermOk (term_of self)) }
     {
         let v = self.variable();
-        magnitude32(self.coef) <= Term::MAX_COEF
-            && 1 <= v
-            && v <= Term::MAX_VARIABLE
+        magnitude32(self.coef) <= Term::MAX_COEF && 1 <= v && v <= Term::MAX_VARIABLE
     }
 }
 

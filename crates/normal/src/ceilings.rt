@@ -16,6 +16,7 @@ pub const MAX_CEILINGS: usize = 4;
 
 // How many terms a half row must have to be a ceiling, and to be one of the sum.
 const MIN_TERMS: usize = 8;
+
 const SUM_TERMS: usize = 3;
 
 // Whether half row h is tight: it has so many terms at least, and must reach more than half of what it weighs.

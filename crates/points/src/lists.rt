@@ -5,6 +5,7 @@ ghost use Rattle.points.specs.Lists.{Fine, ValuesFine, BitsBelow, RowsRise, Rows
 
 use crate::point::Point;
 use crate::vectors::le_all;
+use instance::bits::within;
 use integers::magnitude;
 
 // Whether a value is in range, and 0 where it is at a place that no objective has.
@@ -28,21 +29,11 @@ fn values_fine(objectives: u64, values: &[i64]) -> bool
         .all(|(i, value)| value_fine(objectives, i, *value))
 }
 
-// Whether an assignment has no bit from n up.
-fn bits_below(n: u64, model: u64) -> bool
-    ensures { Decides result (model < 2 ^ n) }
-{
-    if n < Point::MAX_BITS {
-        return model >> n == 0;
-    }
-    true
-}
-
 // Whether the assignments have no bit from n up.
 fn models_fine(n: u64, models: &[u64]) -> bool
     ensures { Decides result (BitsBelow n (length models.now) models.now) }
 {
-    models.iter().all(|model| bits_below(n, *model))
+    models.iter().all(|model| within(*model, n))
 }
 
 // Whether the vectors strictly rise.

@@ -79,11 +79,7 @@ fn read_objective<'a>(
 }
 
 // Terms, a relation, a bound, then `;`.
-fn read_row<'a>(
-    text: &'a [u8],
-    terms: &mut [i32],
-    base: usize,
-) -> Result<Statement<'a>, Malformed>
+fn read_row<'a>(text: &'a [u8], terms: &mut [i32], base: usize) -> Result<Statement<'a>, Malformed>
     requires text_len_bound { length text.now < 2 ^ 32 }
     requires base_le_max_terms { base ≤ max_terms }
     requires term_room_in_bounds { term_room ≤ length terms.old }

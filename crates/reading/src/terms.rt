@@ -90,11 +90,7 @@ impl<'a> Run<'a> {
 }
 
 // The terms that stand first in a text, stored from place `base` of the table on where they are in range and have room.
-pub fn read_terms<'a>(
-    text: &'a [u8],
-    terms: &mut [i32],
-    base: usize,
-) -> Result<Run<'a>, Malformed>
+pub fn read_terms<'a>(text: &'a [u8], terms: &mut [i32], base: usize) -> Result<Run<'a>, Malformed>
     requires text_len_bound { length text.now < 2 ^ 32 }
     requires base_le_max_terms { base ≤ max_terms }
     requires term_room_in_bounds { term_room ≤ length terms.old }

@@ -15,6 +15,7 @@ use std::fmt;
 // An error by its number.
 pub trait Refusal: Copy {
     ghost number: { Self → ℕ };
+
     ghost value: { Self → ℕ };
 
     // Its number in document 01.
@@ -27,6 +28,7 @@ pub trait Refusal: Copy {
 
     // Done has the number 0.
     ghost some: { (e : Self) → 1 ≤ number e };
+
     ghost small: { (e : Self) → number e ≤ 99 };
 }
 
@@ -38,8 +40,11 @@ impl Refusal for NotInstance {
     ghost use Rattle.std.proofs.Common.{rules};
 
     ghost number = { λ _. 10 };
+
     ghost value = { λ _. 0 };
+
     ghost some = { Prim.search rules };
+
     ghost small = { Prim.search rules };
 
     fn number(self) -> u64 {

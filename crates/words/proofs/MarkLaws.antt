@@ -140,8 +140,7 @@ pub stop-next : (text : List ℕ) → 0 < length text → get_or text 0 0 ≡ 59
     → (marks_at Inside text ≡ stop ∷ marks_at Inside (take (length text - 1) (drop 1 text))) × (length (take (length text - 1) (drop 1 text)) < length text)
 stop-next text h e =
     let all : take (length text - 1) (drop 1 text) ≡ drop 1 text = take_rest text 1 in
-    let n : length (take (length text - 1) (drop 1 text)) ≡ length (drop 1 text) = ap length all in
-    (
+    let n : length (take (length text - 1) (drop 1 text)) ≡ length (drop 1 text) = ap length all in (
       stop-marks text h e ∙ ap (λ (bs : List ℕ). stop ∷ marks_at Inside bs) (sym all),
       omega (arith, length-drop 1 text),
     )
@@ -184,8 +183,7 @@ module _ (text : List ℕ) (r : ℕ) (e : WordEnd text r) where
       → (marks_at Inside text ≡ word (take r text) ∷ marks_at Inside (take (length text - r) (drop r text))) × (length (take (length text - r) (drop r text)) < length text)
   word-next l b n =
       let all : take (length text - r) (drop r text) ≡ drop r text = take_rest text r in
-      let m : length (take (length text - r) (drop r text)) ≡ length (drop r text) = ap length all in
-      (
+      let m : length (take (length text - r) (drop r text)) ≡ length (drop r text) = ap length all in (
         word-marks (word_more l b n) ∙ ap (λ (bs : List ℕ). word (take r text) ∷ marks_at Inside bs) (sym all),
         omega (arith, length-drop r text, word_more l b n),
       )

@@ -41,7 +41,11 @@ pub fn is_plain(b: u8) -> bool
 pub fn place_after(b: u8) -> Place
     ensures { result ≡ place_after b }
 {
-    if b == b'\n' { Place::Start } else { Place::Inside }
+    if b == b'\n' {
+        Place::Start
+    } else {
+        Place::Inside
+    }
 }
 
 // Where the byte after b stands.

@@ -16,9 +16,8 @@ ghost use Rattle.decimal.specs.Bytes.{overwrite};
 ghost use Rattle.instance.specs.Tables.{IsInstance, entries_in};
 ghost use Rattle.writing.specs.Answers.{text_of, WrittenAs};
 
-pub use errors::WriteError;
-
 use crate::statements::{put_statement, statement_len};
+pub use errors::WriteError;
 use instance::{Entry, Instance};
 
 // The length of the text of the first n entries.

@@ -42,9 +42,9 @@ put_statement-at-requires c = record {
 pub loop-k-preserved : goal.loop-k-preserved
 loop-k-preserved c =
     rest_put (statement_text (entry_of c.args.terms.now c.at.result))
-      (statements_text (tabulate (entry_at c.args.terms.now c.args.rows.now) (c.loop-k.k + 1) (c.args.n - (c.loop-k.k + 1))))
-      (left (goal.at.loop-k-preserved c).After-at)
-      (c.put_statement-at.ensures.left, c.put_statement-at.ensures.next)
+    (statements_text (tabulate (entry_at c.args.terms.now c.args.rows.now) (c.loop-k.k + 1) (c.args.n - (c.loop-k.k + 1))))
+    (left (goal.at.loop-k-preserved c).After-at)
+    (c.put_statement-at.ensures.left, c.put_statement-at.ensures.next)
 
 pub returns : goal.returns
 returns c =

@@ -12,4 +12,3 @@ use Rattle.writing.proofs.put_text.Given as goal
 abbrev pub invariant-loop-k : goal.invariant-loop-k
 invariant-loop-k l =
     Rest l.initial.out 0 (text_of l.terms l.rows) l.out l.at (statements_text (tabulate (entry_at l.terms l.rows) l.k (l.n - l.k)))
-

@@ -13,4 +13,3 @@ use Rattle.writing.proofs.text_len.Given as goal
 abbrev pub invariant-loop-k : goal.invariant-loop-k
 invariant-loop-k l =
     (l.sum + length (statements_text (tabulate (entry_at l.terms l.rows) l.k (l.n - l.k))) ≡ length (text_of l.terms l.rows))
-

@@ -31,8 +31,8 @@ returns-then-unmet c =
 
 pub loop-k-preserved : goal.loop-k-preserved
 loop-k-preserved c =
-  c.loop-k.invariant ∙ left-next (entry_at c.args.terms.now c.args.rows.now) c.args.first c.args.count c.args.a c.loop-k.k c.loop-k-test.true
-      (row-meets (row (goal.at.loop-k-preserved c).After-margin_at-unmet) c.args.a (to_z w64 (of_z w64 c.margin_at-unmet.result)) (measured (goal.at.loop-k-preserved c).After-margin_at-unmet) c.if-unmet.false)
+    c.loop-k.invariant ∙ left-next (entry_at c.args.terms.now c.args.rows.now) c.args.first c.args.count c.args.a c.loop-k.k c.loop-k-test.true
+    (row-meets (row (goal.at.loop-k-preserved c).After-margin_at-unmet) c.args.a (to_z w64 (of_z w64 c.margin_at-unmet.result)) (measured (goal.at.loop-k-preserved c).After-margin_at-unmet) c.if-unmet.false)
 
 pub returns : goal.returns
 returns c =

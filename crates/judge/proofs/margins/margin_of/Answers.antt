@@ -1,6 +1,5 @@
 -- Every kind but `>=` and `<=` has the distance.
 use Rattle.std.proofs.Common.{rules, ◌≡◌}
-
 use Rattle.instance.specs.Kinds.{number_of}
 use Rattle.judge.proofs.MarginLaws.{margin-equal}
 use Rattle.judge.proofs.margins.margin_of.Goals as goal

@@ -12,8 +12,7 @@ loop-k-init c = (put-none c.args.terms.now c.args.first c.args.turn c.args.at c.
 
 pub loop-k-preserved : goal.loop-k-preserved
 loop-k-preserved c =
-    let e = c.half_of-h.ensures ∙ ap (half_of c.args.turn) c.at.ensures in
-    (
+    let e = c.half_of-h.ensures ∙ ap (half_of c.args.turn) c.at.ensures in (
       put-more c.args.terms.now c.args.first c.args.turn c.args.at c.loop-k.k c.loop-k.invariant.0 (omega (arith, c.requires.count_in_bounds)) c.half_of-h.result e,
       omega (
         arith,

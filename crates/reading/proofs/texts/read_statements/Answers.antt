@@ -50,7 +50,7 @@ loop-next-preserved c =
     let f : c.check.result ≡ Ok tt = search rules in
     let v = sym (verdict-is c.loop-next.invariant e) ∙ subst (VerdictIs _ c.loop-next.number) f c.check.ensures in
     let r : c.store_entry.new.rows ≡ sets c.loop-next.rows ((c.loop-next.taken.objectives + c.loop-next.taken.rows) * 4)
-        (pos (number_of c.in-Some.s.kind) ∷ (pos c.loop-next.taken.terms ∷ (pos c.in-Some.s.count ∷ (c.in-Some.s.bound ∷ [])))) = search rules in
+    (pos (number_of c.in-Some.s.kind) ∷ (pos c.loop-next.taken.terms ∷ (pos c.in-Some.s.count ∷ (c.in-Some.s.bound ∷ [])))) = search rules in
     taking_step c.loop-next.invariant e v c.requires.row_room_in_bounds r c.with-taken.result c.with-taken.ensures
 
 pub returns-then-taken-eq0 : goal.returns-then-taken-eq0

@@ -9,4 +9,3 @@ use Rattle.writing.proofs.terms.put_terms.Given as goal
 abbrev pub invariant-loop-k : goal.invariant-loop-k
 invariant-loop-k l =
     Rest l.initial.out l.at (terms_text (terms_at l.terms l.first (l.end - l.first))) l.out l.place (terms_text (terms_at l.terms l.k (l.end - l.k)))
-

@@ -10,4 +10,3 @@ use Rattle.writing.proofs.terms.terms_len.Given as goal
 abbrev pub invariant-loop-k : goal.invariant-loop-k
 invariant-loop-k l =
     (l.sum + length (terms_text (terms_at l.terms l.k (l.end - l.k))) ≡ length (terms_text (terms_at l.terms l.first (l.end - l.first))))
-
