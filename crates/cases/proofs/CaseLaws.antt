@@ -28,7 +28,6 @@ use Rattle.points.specs.Lists.{Proper}
 use Rattle.files.specs.Written.{WrittenAs}
 use Rattle.front.specs.Listing.{FrontOf, room}
 use Rattle.front.specs.Computed.{front_of}
-use Rattle.front.specs.Answers.{Answer}
 use Rattle.front.proofs.FrontLaws.{front-of}
 use Rattle.front.proofs.ProperLaws.{runs-proper}
 use Rattle.cases.specs.Rules.{Expected, refuses, lists, cuts, files, Reads, Listings, Files, HoldsAs}
@@ -95,7 +94,7 @@ module _ (text : List ℕ) (short : is_long text ≡ false) where
         (runs-proper (is ts rs h k) points_t f.members vs ms f.rising f.apart (omega arith))
         in
         file-T (drop 8 vs) (drop 2 ms) proper found left enough small w
-        (as-T (λ a b c vs ms. WrittenAs a b c vs ms found left w) vs ms (objectives-are ts rs h k ∙ o) ((reads_as e ts rs h k).1 ∙ n) (ap (λ (a : Answer). a.points) p.0) p.1 p.2 u)
+        (as-T (λ a b c vs ms. WrittenAs a b c vs ms found left w) vs ms (objectives-are ts rs h k ∙ o) ((reads_as e ts rs h k).1 ∙ n) p.1 p.2 p.3 u)
 
     files-by : (most bytes : ℕ) (checks : List ℕ) → is_file_t most os i.variables (front_of i) bytes checks ≡ true → Files text most bytes checks
     files-by most bytes checks t =

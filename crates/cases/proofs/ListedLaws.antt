@@ -10,9 +10,10 @@ use Rattle.instance.specs.Tables.{IsInstance}
 use Rattle.instance.specs.Meaning.{meaning}
 use Rattle.points.specs.Fronts.{Candidate}
 use Rattle.front.specs.Listing.{FrontOf, room, values_left, models_left}
-use Rattle.front.specs.Answers.{answer_of, ListedAs}
-use Rattle.front.specs.declared.answer.Listed.{Listed}
-use Rattle.front.specs.declared.answer.Listed.TheVariants.{Done, NotInstance, Larger}
+use Rattle.front.specs.Answers.{listed_number, listed_value, ListedAs}
+use Rattle.std.specs.Prelude.{Result, Ok, Err}
+use Rattle.front.specs.declared.errors.ListError.{ListError}
+use Rattle.front.specs.declared.errors.ListError.TheVariants.{NotInstance, Larger}
 use Rattle.front.proofs.FrontLaws.{front-only}
 
 -- ---- ListedAs
@@ -20,26 +21,28 @@ use Rattle.front.proofs.FrontLaws.{front-only}
 -- Where the front is known, so is the answer, and what is left: there is one front.
 module _ {ts rs : List ℤ} (is : IsInstance ts rs) (front : List Candidate) (f : FrontOf (meaning ts rs) front) (vs : List ℤ) (ms : List ℕ) (vs' : List ℤ) (ms' : List ℕ) where
   -- the answer with this number and these points, and the runs that begin with them
-  abbrev pub Tells : Listed → ℕ → List Candidate → Type 0
-  Tells r number xs = (answer_of r ≡ record { number = number; points = length xs }) × (vs' ≡ values_left xs vs) × (ms' ≡ models_left xs ms)
+  abbrev pub Tells : Result ℕ ListError → ℕ → List Candidate → Type 0
+  Tells r number xs = (listed_number r ≡ number) × (listed_value r ≡ length xs) × (vs' ≡ values_left xs vs) × (ms' ≡ models_left xs ms)
 
-  pub listed-whole : length front ≤ room vs ms → (r : Listed) → ListedAs ts rs vs ms vs' ms' r → Tells r 0 front
-  listed-whole h (Done k) l =
+  pub listed-whole : length front ≤ room vs ms → (r : Result ℕ ListError) → ListedAs ts rs vs ms vs' ms' r → Tells r 0 front
+  listed-whole h (Ok k) l =
       let e : l.front ≡ front = front-only (meaning ts rs) l.is_front f in (
-        l.answer ∙ ap (λ (xs : List Candidate). record { number = 0; points = length xs }) e,
+        l.numbered,
+        l.count ∙ ap length e,
         l.values ∙ ap (λ (xs : List Candidate). values_left xs vs) e,
         l.models ∙ ap (λ (xs : List Candidate). models_left xs ms) e,
       )
-  listed-whole h NotInstance l = absurd (l.none is)
-  listed-whole h (Larger k) l = absurd (omega (arith, h, l.larger, ap length (front-only (meaning ts rs) l.is_front f)))
+  listed-whole h (Err NotInstance) l = absurd (l.is_not is)
+  listed-whole h (Err (Larger k)) l = absurd (omega (arith, h, l.larger, ap length (front-only (meaning ts rs) l.is_front f)))
 
-  pub listed-part : room vs ms < length front → (r : Listed) → ListedAs ts rs vs ms vs' ms' r → Tells r 11 (take (room vs ms) front)
-  listed-part h (Done k) l = absurd (omega (arith, h, l.fits, ap length (front-only (meaning ts rs) l.is_front f)))
-  listed-part h NotInstance l = absurd (l.none is)
-  listed-part h (Larger k) l =
+  pub listed-part : room vs ms < length front → (r : Result ℕ ListError) → ListedAs ts rs vs ms vs' ms' r → Tells r 11 (take (room vs ms) front)
+  listed-part h (Ok k) l = absurd (omega (arith, h, l.fits, ap length (front-only (meaning ts rs) l.is_front f)))
+  listed-part h (Err NotInstance) l = absurd (l.is_not is)
+  listed-part h (Err (Larger k)) l =
       let e : l.front ≡ front = front-only (meaning ts rs) l.is_front f in
       let n : room vs ms ≡ length (take (room vs ms) front) = sym (length-take-le (room vs ms) front (omega arith)) in (
-        l.answer ∙ ap (λ (k : ℕ). record { number = 11; points = k }) n,
+        l.numbered,
+        l.count ∙ n,
         l.values ∙ ap (λ (xs : List Candidate). values_left (take (room vs ms) xs) vs) e,
         l.models ∙ ap (λ (xs : List Candidate). models_left (take (room vs ms) xs) ms) e,
       )

@@ -1,10 +1,15 @@
 -- Document 01, 'The front': the candidates of an instance, its front, the room for points, and what the lent runs then hold.
-use Rattle.std.specs.Prelude.{◌≡◌, Bool, true, false, List, [], ◌∷◌, ◌++◌, map, ℕ, ◌+◌, ◌*◌, ◌/◌, ◌≤◌, ◌<◌, min, ℤ, pos, length, get_or, set, take, drop}
+use Rattle.std.specs.Prelude.{◌≡◌, Option, Some, None, List, [], ◌∷◌, ◌++◌, map, ℕ, ◌*◌, ◌/◌, ◌≤◌, ◌<◌, min, ℤ, length, take, drop}
+use Rattle.charging.specs.declared.rows.Cost.{Cost}
+use Rattle.charging.specs.declared.rows.Rows.{Rows}
+use Rattle.instance.specs.Tables.{objectives_in, IsInstance}
 use Rattle.instance.specs.Meaning.{Instance, meaning, vector, Feasible}
 use Rattle.judge.specs.Judging.{padded}
+use Rattle.normal.specs.Costs.{PricedAll}
+use Rattle.normal.specs.Ceilings.{Narrow}
+use Rattle.normal.specs.Normal.{Normal}
 use Rattle.points.specs.Limits.{max_points, point_values}
 use Rattle.points.specs.Fronts.{Candidate, IsFront}
-use Rattle.front.specs.declared.put.Four.{Four}
 
 -- A candidate of an instance: a feasible assignment with its vector, four values, unused ones 0.
 pub record CandidateOf (i : Instance) (c : Candidate) : Type 0 where
@@ -38,27 +43,22 @@ values_left xs vs = values_of xs ++ drop (length xs * point_values) vs
 abbrev pub models_left : List Candidate → List ℕ → List ℕ
 models_left xs ms = models_of xs ++ drop (length xs) ms
 
--- ---- what the code's smaller functions promise
-
--- The four values as a list.
-abbrev pub four_of : Four → List ℤ
-four_of four = four.first ∷ (four.second ∷ (four.third ∷ (four.fourth ∷ [])))
-
--- Four numbers stored from place `at` on.
-abbrev pub set_four : List ℤ → ℕ → List ℤ → List ℤ
-set_four vs at four = set (set (set (set vs at (get_or four 0 (pos 0))) (at + 1) (get_or four 1 (pos 0))) (at + 2) (get_or four 2 (pos 0))) (at + 3) (get_or four 3 (pos 0))
-
--- The first k numbers stored from place `at` on; before it all is as found.
-pub record CostsPut (k : ℕ) (costs : List ℕ) (at : ℕ) (l l' : List ℕ) : Type 0 where
-  pub same : length l' ≡ length l
-  pub before : (j : ℕ) → j < at → get_or l' j 0 ≡ get_or l j 0
-  pub stored : (i : ℕ) → i < k → get_or l' (at + i) 0 ≡ get_or costs i 0
-
--- What listing with room for so many points leaves: the whole front where it fits, else as many first points as there is room for.
-pub record Lists (ts rs : List ℤ) (r : ℕ) (vs : List ℤ) (ms : List ℕ) (vs' : List ℤ) (ms' : List ℕ) (all : Bool) (count : ℕ) : Type 0 where
+-- What listing with room for r points leaves: the front's first r points in the runs, the rest as found. It answers how many points the front has, if these
+-- are all of them.
+pub record Lists (ts rs : List ℤ) (r : ℕ) (vs : List ℤ) (ms : List ℕ) (vs' : List ℤ) (ms' : List ℕ) (count : Option ℕ) : Type 0 where
   pub front : List Candidate
   pub is_front : FrontOf (meaning ts rs) front
-  pub whole : all ≡ true → (count ≡ length front) × (length front ≤ r)
-  pub part : all ≡ false → (count ≡ r) × (r < length front)
-  pub values : vs' ≡ values_left (take count front) vs
-  pub models : ms' ≡ models_left (take count front) ms
+  pub whole : (k : ℕ) → count ≡ Some k → (k ≡ length front) × (length front ≤ r)
+  pub part : count ≡ None → r < length front
+  pub values : vs' ≡ values_left (take r front) vs
+  pub models : ms' ≡ models_left (take r front) ms
+
+-- ---- what the code's smaller functions promise
+
+-- The half rows of an instance with k objectives: with the costs of these they are its normal tables.
+pub record HalfRows (ts rs : List ℤ) (k : ℕ) (rows : Rows) : Type 0 where
+  pub is : IsInstance ts rs
+  pub objectives : k ≡ objectives_in rs
+  pub variables : rows.n ≡ (meaning ts rs).variables
+  pub narrow : Narrow rows
+  pub normal : (costs : List Cost) → PricedAll ts rs rows.n k costs → Normal ts rs k rows costs

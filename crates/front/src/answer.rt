@@ -2,47 +2,79 @@
 ghost use Rattle.std.specs.Prelude.{◌≡◌, ◌/◌, ◌*◌, ◌≤◌, min, length};
 ghost use Rattle.points.specs.Limits.{max_points, point_values};
 ghost use Rattle.instance.specs.Answers.{SizesOf};
-ghost use Rattle.front.specs.Listing.{Lists};
+ghost use Rattle.front.specs.Listing.{HalfRows, Lists};
 ghost use Rattle.front.specs.Answers.{ListedAs};
 
-use crate::listing::{Outcome, list_points};
+use crate::errors::ListError;
+use crate::listing::list_points;
 use crate::order::by_share;
-use crate::turns::{Turn, by_length};
-use instance::{Checked, Instance, Term};
-use normal::ceilings::{Ceiling, lay_ceilings};
+use crate::turns::by_length;
+use capping::Problem;
+use charging::{Cost, Rows, Term, Turn};
+use instance::Instance;
+use normal::ceilings::{MAX_CEILINGS, lay_ceilings};
 use normal::costs::lay_objectives;
-use normal::fill::{Filled, lay_rows};
+use normal::fill::lay_rows;
+use normal::rows::Filled;
 use points::Point;
 
-// The answer of listing.
-#[derive(Drop)]
-pub enum Listed {
-    Done(u64), // done: the number of points
-    NotInstance, // 10: tables are not an instance
-    Larger(u64), // 11: front larger than R; R
-}
+// An instance has so many variables at most.
+const MAX_VARIABLES: usize = instance::Term::MAX_VARIABLE as usize;
 
-// The lesser of two.
-fn lesser(a: usize, b: usize) -> usize
-    ensures { result ≡ min a b }
-{
-    if b < a {
-        return b;
-    }
-    a
-}
+// What fills the room for terms, for costs and for turns.
+const NO_TERM: Term = Term {
+    weight: 0,
+    variable: 0,
+    off: 0,
+};
+const NO_COST: Cost = Cost { gap: 0, dear: 0 };
+const NO_TURN: Turn = Turn {
+    row: 0,
+    one: 0,
+    zero: 0,
+};
 
 // The room for points: 1,024, a quarter of the first run's length rounded down, or the second's length, whichever is least.
 fn room_of(values: usize, models: usize) -> usize
     ensures { result ≡ min max_points (min (values / point_values) models) }
 {
-    lesser(
-        Point::MAX_POINTS as usize,
-        lesser(values / Point::VALUES, models),
-    )
+    (Point::MAX_POINTS as usize).min((values / Point::VALUES).min(models))
 }
 
-// Lists the front of an instance, whose sizes are known, by its normal tables.
+// Lists the front of an instance with k objectives by its half rows: lays the objectives and the ceilings out, and orders the variables.
+fn list_rows(
+    terms: &[i32],
+    rows: &[i64],
+    k: usize,
+    half_rows: &Rows<'_>,
+    room: usize,
+    values: &mut [i64],
+    models: &mut [u64],
+) -> Option<usize>
+    requires half_rows { HalfRows terms.now rows.now k half_rows.now }
+    requires room { (room ≤ max_points) × (room * 4 ≤ length values.old) × (room ≤ length models.old) }
+    ensures { Lists terms.now rows.now room values.old models.old values.new models.new result }
+{
+    let n = half_rows.n;
+    let mut costs = [NO_COST; Instance::MAX_OBJECTIVES * MAX_VARIABLES];
+    let mut ceilings = [NO_COST; MAX_CEILINGS * MAX_VARIABLES];
+    let mut caps = [0; MAX_CEILINGS];
+    let mut order = [0; MAX_VARIABLES];
+    lay_objectives(terms, rows, k, n, &mut costs);
+    let above = lay_ceilings(half_rows, &mut ceilings, &mut caps);
+    by_share(&costs, k, n, &mut order);
+    let problem = Problem {
+        rows: *half_rows,
+        count: k,
+        costs: &costs,
+        ceilings: &ceilings,
+        caps: &caps[..above],
+        order: &order,
+    };
+    list_points(terms, rows, &problem, room, values, models)
+}
+
+// Lists the front of an instance, whose sizes are known: lays its half rows out, and orders them.
 fn list_instance(
     terms: &[i32],
     rows: &[i64],
@@ -50,103 +82,50 @@ fn list_instance(
     room: usize,
     values: &mut [i64],
     models: &mut [u64],
-) -> Outcome
+) -> Option<usize>
     requires sizes_of { SizesOf terms.now rows.now sizes }
-    requires room_le_max_points { (room ≤ max_points) × (room * 4 ≤ length values.old) × (room ≤ length models.old) }
-    ensures { Lists terms.now rows.now room values.old models.old values.new models.new result.all result.points }
+    requires room { (room ≤ max_points) × (room * 4 ≤ length values.old) × (room ≤ length models.old) }
+    ensures { Lists terms.now rows.now room values.old models.old values.new models.new result }
 {
     let k = sizes.objectives;
-    let count = sizes.rows;
-    let n = sizes.variables as usize;
-    let mut starts = [0usize; Filled::STARTS];
-    let mut variables = [0usize; Filled::TERMS];
-    let mut offs = [0u8; Filled::TERMS];
-    let mut weights = [0u64; Filled::TERMS];
-    let mut needs = [0u64; Filled::HALVES];
-    let mut gaps = [0u64; Filled::GAPS];
-    let mut dears = [0u8; Filled::GAPS];
-    let mut ceilings = [0u64; Filled::GAPS];
-    let mut sides = [0u8; Filled::GAPS];
-    let mut tops = [0u64; Ceiling::MAX_COUNT];
-    let mut order = [0usize; Term::MAX_VARIABLE as usize];
-    let mut hint = [0u64; Filled::HALVES * Turn::NUMBERS];
-    let filled = lay_rows(
-        terms,
-        rows,
-        k,
-        count,
-        &mut starts,
-        &mut variables,
-        &mut offs,
-        &mut weights,
-        &mut needs,
-    );
-    lay_objectives(terms, rows, k, n, &mut gaps, &mut dears);
-    let used = filled.used;
+    let mut starts = [0; Filled::STARTS];
+    let mut laid = [NO_TERM; Filled::TERMS];
+    let mut needs = [0; Filled::HALVES];
+    let mut turns = [NO_TURN; Filled::HALVES];
+    let filled = lay_rows(terms, rows, k, sizes.rows, &mut starts, &mut laid, &mut needs);
     let halves = filled.halves;
-    let numbers = k * n;
-    let e = lay_ceilings(
-        n,
-        &starts[..halves + 1],
-        &variables[..used],
-        &offs[..used],
-        &weights[..used],
-        &needs[..halves],
-        &mut ceilings,
-        &mut sides,
-        &mut tops,
-    );
-    let above = e * n;
-    by_share(n, &gaps[..numbers], k, &mut order);
-    by_length(
-        n,
-        &starts[..halves + 1],
-        &variables[..used],
-        &offs[..used],
-        &weights[..used],
-        &needs[..halves],
-        &mut hint,
-    );
-    list_points(
-        terms,
-        rows,
-        n,
-        &starts[..halves + 1],
-        &variables[..used],
-        &offs[..used],
-        &weights[..used],
-        &needs[..halves],
-        &gaps[..numbers],
-        &dears[..numbers],
-        k,
-        &order,
-        &ceilings[..above],
-        &sides[..above],
-        e,
-        &tops,
-        room,
-        values,
-        models,
-        &hint[..halves * Turn::NUMBERS],
-    )
+    let plain = Rows {
+        n: sizes.variables as usize,
+        starts: &starts[..halves + 1],
+        terms: &laid[..filled.used],
+        needs: &needs[..halves],
+        turns: &[],
+    };
+    by_length(&plain, &mut turns);
+    let ordered = Rows {
+        turns: &turns[..halves],
+        ..plain
+    };
+    list_rows(terms, rows, k, &ordered, room, values, models)
 }
 
 // Lists the front of the instance that the tables are into the lent runs: every best trade between the objectives, once, in rising order,
-// each with the smallest-numbered assignment that has it.
+// each with the smallest-numbered assignment that has it; answers how many points it has.
 // Refuses 10 where the tables are not an instance, then 11 where the front has more points than there is room R for.
 // Leaves the tables as found; on done the room of the points is filled, on 11 the first R points are there, on 10 nothing; all else is as found.
 // Rules out: a vector that another beats, or that is there twice; a missing last point; another assignment's values; refusing a front of R points.
-pub fn list_front(terms: &[i32], rows: &[i64], values: &mut [i64], models: &mut [u64]) -> Listed
+pub fn list_front(
+    terms: &[i32],
+    rows: &[i64],
+    values: &mut [i64],
+    models: &mut [u64],
+) -> Result<u64, ListError>
     ensures { ListedAs terms.now rows.now values.old models.old values.new models.new result }
 {
-    let Checked::Sizes(sizes) = Instance::of(terms, rows) else {
-        return Listed::NotInstance;
-    };
+    let sizes = Instance::of(terms, rows)?;
     let room = room_of(values.len(), models.len());
-    let out = list_instance(terms, rows, sizes, room, values, models);
-    let all = out.all;
-    if all {
-        return Listed::Done(out.points as u64);
+    match list_instance(terms, rows, sizes, room, values, models) {
+        Some(points) => Ok(points as u64),
+        None => Err(ListError::Larger(room as u64)),
     }
-    Listed::Larger(out.points as u64)
 }
