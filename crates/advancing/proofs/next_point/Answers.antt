@@ -1,6 +1,6 @@
 -- The chosen trade has the least vector; the smallest assignment within it has exactly that vector (next-some).
 use Rattle.advancing.specs.Next.{Next}
-use Rattle.advancing.proofs.NextLaws.{next-none, next-wanted, next-fits, next-some}
+use Rattle.advancing.proofs.NextLaws.{next-none, next-some}
 use Rattle.advancing.proofs.next_point.Goals as goal
 
 pub returns-in_default-clause-next : goal.returns-in_default-clause-next

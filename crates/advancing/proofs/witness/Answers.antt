@@ -1,7 +1,6 @@
 use native.Mathlib.Omega.{arith}
 use Prim.Native.Nat.{◌≤◌}
 use lib.ListN.{length}
-use Rattle.charging.specs.Rows.{bit}
 use Rattle.capping.specs.Caps.{vec}
 use Rattle.seeking.proofs.SeekLaws.{below-front, front-below}
 use Rattle.advancing.specs.Next.{AtMost}

@@ -1,7 +1,7 @@
 use mathlib.Core.Path.{◌≡◌}
 use native.Mathlib.Omega.{arith}
 use Rattle.forcing.specs.Goals.{Wanted}
-use Rattle.lowering.proofs.LowerLaws.{lowered-start, lowered-end}
+use Rattle.lowering.proofs.LowerLaws.{lowered-end}
 use Rattle.lowering.proofs.smallest.Goals as goal
 
 pub returns : goal.returns
