@@ -1,44 +1,37 @@
--- What the terms of an objective give, spread over the sides of their variables. Assumes nothing.
+-- What terms give, or withhold, added up for the sides of their variables. Assumes nothing.
 use mathlib.Core.Path.{◌≡◌, refl, sym, ap, ap₂, ◌∙◌, subst}
+use mathlib.Core.Logic.{⊎_elim}
 use mathlib.Core.Bool.{Bool, false, cond}
 use mathlib.Core.List.{List, [], ◌∷◌, ◌++◌}
 use Prim.Native.Nat.{ℕ, zero, suc, ◌+◌, ◌-◌, ◌*◌, ◌≤◌, ◌<◌}
 use native.Mathlib.Omega.{arith}
 use native.Mathlib.Decide.{dec_lt}
 use lib.IntN.{ℤ}
-use lib.ListN.{length, get_or, set, length-set, get_or-eq_default}
+use lib.ListN.{length, get_or, set, replicate, length-replicate, get_or-replicate, get_or-eq_default}
 use lib.Seq.{get_or-set_same, get_or-set_other}
 use borrow.Author.Tests.{eq-eqb, ne_eqb}
-use Rattle.charging.specs.Rows.{span, bit}
+use Rattle.charging.specs.Rows.{hit, span, bit}
 use Rattle.charging.proofs.BitLaws.{bit_word, bit-two}
-use Rattle.instance.specs.Limits.{max_coef}
+use Rattle.charging.proofs.SumLaws.{eq-or, hit-eq, hit-ne}
 use Rattle.instance.specs.Tables.{term_at}
 use Rattle.instance.specs.Lists.{tabulate}
 use Rattle.normal.specs.declared.Half.{Half}
 use Rattle.normal.specs.Halves.{half_of, bit_of, gives, gives_all}
 use Rattle.normal.specs.Rows.{halves_at}
-use Rattle.normal.specs.Costs.{sides_of, sides_sum, Spread}
+use Rattle.normal.specs.Costs.{sides_of, Spread}
+use Rattle.normal.specs.Ceilings.{Bits}
 use Rattle.normal.proofs.LaidLaws.{halves-snoc}
 use Rattle.normal.proofs.TableLaws.{HalfOk}
 
--- ---- a run cleared
+-- ---- sides
 
-pub zero_more : (l : List ℕ) (i : ℕ) → i < length l → ((j : ℕ) → j < i → get_or l j 0 ≡ 0) → (j : ℕ) → j < i + 1 → get_or (set l i 0) j 0 ≡ 0
-zero_more l i h f j m = by (dec_lt j i)
+-- a run that is all 0
+pub zeros : (m j : ℕ) → get_or {A = ℕ} (replicate m 0) j 0 ≡ 0
+zeros m j = by (dec_lt j m)
   where
-    by : Dec (j < i) → get_or (set l i 0) j 0 ≡ 0
-    by (yes u) = get_or-set_other l i j 0 0 (λ e. omega arith) ∙ f j u
-    by (no u) = ap (λ (k : ℕ). get_or (set l i 0) k 0) same ∙ get_or-set_same l i 0 0 h
-      where
-        same : j ≡ i
-        same = omega arith
-
-pub zero-all : (l : List ℕ) (i : ℕ) → length l ≤ i → ((j : ℕ) → j < i → get_or l j 0 ≡ 0) → (j : ℕ) → get_or l j 0 ≡ 0
-zero-all l i h f j = by (dec_lt j i)
-  where
-    by : Dec (j < i) → get_or l j 0 ≡ 0
-    by (yes u) = f j u
-    by (no u) = get_or-eq_default l 0 {n = j} (omega arith)
+    by : Dec (j < m) → get_or {A = ℕ} (replicate m 0) j 0 ≡ 0
+    by (yes l) = get_or-replicate m j 0 0 l
+    by (no l) = get_or-eq_default (replicate m 0) 0 {n = j} (omega (arith, length-replicate {A = ℕ} m 0))
 
 -- ---- gives_all
 
@@ -81,94 +74,56 @@ unfolding span
 sides-none zero sides x f = refl
 sides-none (suc n) sides x f = omega (arith, sides-none n sides x f, f ((0 + n) * 2 + x (0 + n)))
 
-sides-zero : (n : ℕ) (sides : List ℕ) (a : ℕ) → ((j : ℕ) → get_or sides j 0 ≡ 0) → sides_sum n sides a ≡ 0
-sides-zero n sides a f = sides-none n sides (bit a) f
+-- m is added at side o of variable v
+abbrev pub added : List ℕ → ℕ → ℕ → ℕ → List ℕ
+added sides v o m = set sides (v * 2 + o) (get_or sides (v * 2 + o) 0 + m)
 
--- one term more: its weight is added at the side that its variable is not off
-module _ (n : ℕ) (sides : List ℕ) (h : Half) (o : HalfOk n h) (room : n * 2 ≤ length sides) where
-  place : ℕ
-  place = h.variable * 2 + (1 - h.off)
+module _ (n : ℕ) (sides : List ℕ) (v o m : ℕ) (lv : v < n) (lo : o < 2) (room : n * 2 ≤ length sides) where
+  own : get_or (added sides v o m) (v * 2 + o) 0 ≡ get_or sides (v * 2 + o) 0 + m
+  own = get_or-set_same sides (v * 2 + o) (get_or sides (v * 2 + o) 0 + m) 0 (omega arith)
 
-  inside : place < length sides
-  unfolding place
-  inside = omega (arith, o.variable, o.off)
+  other : (i : ℕ) → (i ≡ v * 2 + o → ⊥) → get_or (added sides v o m) i 0 ≡ get_or sides i 0
+  other i e = get_or-set_other sides (v * 2 + o) i (get_or sides (v * 2 + o) 0 + m) 0 e
 
-  more : List ℕ
-  more = set sides place (get_or sides place 0 + h.weight)
+  -- no side grows by more
+  pub sides-up : (i : ℕ) → get_or (added sides v o m) i 0 ≤ get_or sides i 0 + m
+  sides-up i = ⊎_elim (λ e. subst (λ (j : ℕ). get_or (added sides v o m) j 0 ≤ get_or sides j 0 + m) (sym e) (omega (arith, own))) (λ e. omega (arith, other i e)) (eq-or i (v * 2 + o))
 
-  -- at another variable nothing changes
-  apart : (a v : ℕ) → (v ≡ h.variable → ⊥) → get_or more (v * 2 + bit a v) 0 ≡ get_or sides (v * 2 + bit a v) 0
-  unfolding place more
-  apart a v e = get_or-set_other sides (h.variable * 2 + (1 - h.off)) (v * 2 + bit a v) (get_or sides (h.variable * 2 + (1 - h.off)) 0 + h.weight) 0 (λ z. e (omega (arith, bit-two a v)))
-
-  -- at its own, what the term gives is added
-  here : (a : ℕ) → get_or more (h.variable * 2 + bit a h.variable) 0 ≡ get_or sides (h.variable * 2 + bit a h.variable) 0 + gives h a
-  unfolding place more
-  here a = by (dec_lt (bit a h.variable) 1)
+  -- an assignment comes to m more where it has the variable at that side
+  pub sides-hit : (x : ℕ → ℕ) → Bits n x → sides_of n (added sides v o m) x ≡ sides_of n sides x + hit (x v) o m
+  sides-hit x b =
+      span-one (λ (u : ℕ). get_or sides (u * 2 + x u) 0) (λ (u : ℕ). get_or (added sides v o m) (u * 2 + x u) 0) n v (hit (x v) o m)
+      (λ u l e. other (u * 2 + x u) (λ z. e (omega (arith, b u l)))) lv (⊎_elim at apart (eq-or (x v) o))
     where
-      v : ℕ
-      v = h.variable
+      at : x v ≡ o → get_or (added sides v o m) (v * 2 + x v) 0 ≡ get_or sides (v * 2 + x v) 0 + hit (x v) o m
+      at e = subst (λ (k : ℕ). get_or (added sides v o m) (v * 2 + k) 0 ≡ get_or sides (v * 2 + k) 0 + hit k o m) (sym e) (omega (arith, own, hit-eq o o m refl))
 
-      off-gives : bit a h.variable ≡ h.off → gives h a ≡ 0
-      off-gives e = ap (λ (b : Bool). cond b 0 h.weight) (eq-eqb (bit_of a h.variable) h.off (sym (bit_word a h.variable) ∙ e))
-
-      on-gives : (bit a h.variable ≡ h.off → ⊥) → gives h a ≡ h.weight
-      on-gives e = ap (λ (b : Bool). cond b 0 h.weight) (ne_eqb (bit_of a h.variable) h.off (λ z. e (bit_word a h.variable ∙ z)))
-
-      stays : bit a h.variable ≡ h.off → get_or more (h.variable * 2 + bit a h.variable) 0 ≡ get_or sides (h.variable * 2 + bit a h.variable) 0 + gives h a
-      stays e = get_or-set_other sides place (h.variable * 2 + bit a h.variable) (get_or sides place 0 + h.weight) 0 (λ z. omega (arith, o.off)) ∙ sum
-        where
-          sum : get_or sides (h.variable * 2 + bit a h.variable) 0 ≡ get_or sides (h.variable * 2 + bit a h.variable) 0 + gives h a
-          sum = omega (arith, off-gives e)
-
-      grows : (bit a h.variable ≡ h.off → ⊥) → h.variable * 2 + bit a h.variable ≡ place → get_or more (h.variable * 2 + bit a h.variable) 0 ≡ get_or sides (h.variable * 2 + bit a h.variable) 0 + gives h a
-      grows e z = ap (λ (k : ℕ). get_or more k 0) z ∙ get_or-set_same sides place (get_or sides place 0 + h.weight) 0 inside ∙ ap₂ ◌+◌ (ap (λ (k : ℕ). get_or sides k 0) (sym z)) (sym (on-gives e))
-
-      by : Dec (bit a h.variable < 1) → get_or more (h.variable * 2 + bit a h.variable) 0 ≡ get_or sides (h.variable * 2 + bit a h.variable) 0 + gives h a
-      by (yes l) = pick (dec_lt h.off 1)
-        where
-          pick : Dec (h.off < 1) → get_or more (h.variable * 2 + bit a h.variable) 0 ≡ get_or sides (h.variable * 2 + bit a h.variable) 0 + gives h a
-          pick (yes m) = stays (omega arith)
-          pick (no m) = grows (λ z. omega arith) (omega (arith, o.off))
-      by (no l) = pick (dec_lt h.off 1)
-        where
-          pick : Dec (h.off < 1) → get_or more (h.variable * 2 + bit a h.variable) 0 ≡ get_or sides (h.variable * 2 + bit a h.variable) 0 + gives h a
-          pick (yes m) = grows (λ z. omega arith) (omega (arith, bit-two a h.variable))
-          pick (no m) = stays (omega (arith, o.off, bit-two a h.variable))
-
-  pub sides-more : (a : ℕ) → sides_sum n (set sides (h.variable * 2 + (1 - h.off)) (get_or sides (h.variable * 2 + (1 - h.off)) 0 + h.weight)) a ≡ sides_sum n sides a + gives h a
-  unfolding place more
-  sides-more a = span-one (λ (v : ℕ). get_or sides (v * 2 + bit a v) 0) (λ (v : ℕ). get_or more (v * 2 + bit a v) 0) n h.variable (gives h a) (λ v l e. apart a v e) o.variable (here a)
+      apart : (x v ≡ o → ⊥) → get_or (added sides v o m) (v * 2 + x v) 0 ≡ get_or sides (v * 2 + x v) 0 + hit (x v) o m
+      apart e = omega (arith, other (v * 2 + x v) (λ z. e (omega arith)), hit-ne (x v) o m e)
 
 -- ---- Spread
 
-pub spread_none : (ts : List ℤ) (first n : ℕ) (sides : List ℕ) → ((j : ℕ) → get_or sides j 0 ≡ 0) → Spread ts first 0 n sides sides
+pub spread_none : (ts : List ℤ) (first n : ℕ) (sides : List ℕ) → ((j : ℕ) → get_or sides j 0 ≡ 0) → Spread ts first 0 n sides
 unfolding tabulate gives_all
-spread_none ts first n sides f = record { same = refl; sums = λ a. sides-zero n sides a f; small = λ i. omega (arith, f i) }
+spread_none ts first n sides f = record { sums = λ a. sides-none n sides (bit a) f; small = λ i. omega (arith, f i) }
 
-pub spread-more : (ts : List ℤ) (first k n : ℕ) {sides₀ sides : List ℕ} → Spread ts first k n sides₀ sides → (h : Half) → h ≡ half_of false (term_at ts (first + k)) → HalfOk n h → n * 2 ≤ length sides₀
-    → Spread ts first (k + 1) n sides₀ (set sides (h.variable * 2 + (1 - h.off)) (get_or sides (h.variable * 2 + (1 - h.off)) 0 + h.weight))
-spread-more ts first k n {sides₀} {sides} s h e o room = record {
-  same = simp length-set s.same;
-  sums = λ a. sides-more n sides h o (omega (arith, s.same)) a ∙ ap₂ ◌+◌ (s.sums a) (ap (λ (x : Half). gives x a) e) ∙ sym (gives-snoc (halves_at ts first k false) (half_of false (term_at ts (first + k))) a)
-      ∙ ap (λ (hs : List Half). gives_all hs a) (sym (halves-snoc ts first k false));
-  small = λ i. by i (dec_lt i (h.variable * 2 + (1 - h.off))) (dec_lt (h.variable * 2 + (1 - h.off)) i);
-}
+-- a term gives its weight at the side that its variable is not off
+gives-hit : (h : Half) (a : ℕ) → h.term.off < 2 → hit (bit a h.term.variable) (1 - h.term.off) h.term.weight ≡ gives h a
+gives-hit h a l = ⊎_elim off on (eq-or (bit a h.term.variable) h.term.off)
   where
-    p : ℕ
-    p = h.variable * 2 + (1 - h.off)
+    off : bit a h.term.variable ≡ h.term.off → hit (bit a h.term.variable) (1 - h.term.off) h.term.weight ≡ gives h a
+    off e = hit-ne (bit a h.term.variable) (1 - h.term.off) h.term.weight (λ z. omega arith)
+        ∙ sym (ap (λ (b : Bool). cond b 0 h.term.weight) (eq-eqb (bit_of a h.term.variable) h.term.off (sym (bit_word a h.term.variable) ∙ e)))
 
-    other : (i : ℕ) → (i ≡ h.variable * 2 + (1 - h.off) → ⊥) → get_or (set sides (h.variable * 2 + (1 - h.off)) (get_or sides (h.variable * 2 + (1 - h.off)) 0 + h.weight)) i 0 ≤ (k + 1) * max_coef
-    other i n = omega (arith, get_or-set_other sides (h.variable * 2 + (1 - h.off)) i (get_or sides (h.variable * 2 + (1 - h.off)) 0 + h.weight) 0 n, s.small i)
+    on : (bit a h.term.variable ≡ h.term.off → ⊥) → hit (bit a h.term.variable) (1 - h.term.off) h.term.weight ≡ gives h a
+    on e = hit-eq (bit a h.term.variable) (1 - h.term.off) h.term.weight (omega (arith, bit-two a h.term.variable))
+        ∙ sym (ap (λ (b : Bool). cond b 0 h.term.weight) (ne_eqb (bit_of a h.term.variable) h.term.off (λ z. e (bit_word a h.term.variable ∙ z))))
 
-    own : (i : ℕ) → i ≡ h.variable * 2 + (1 - h.off) → get_or (set sides (h.variable * 2 + (1 - h.off)) (get_or sides (h.variable * 2 + (1 - h.off)) 0 + h.weight)) i 0 ≤ (k + 1) * max_coef
-    own i e = omega (arith, ap (λ (j : ℕ). get_or (set sides (h.variable * 2 + (1 - h.off)) (get_or sides (h.variable * 2 + (1 - h.off)) 0 + h.weight)) j 0) e, get_or-set_same sides (h.variable * 2 + (1 - h.off)) (get_or sides (h.variable * 2 + (1 - h.off)) 0 + h.weight) 0 (omega (arith, s.same, o.variable, o.off)), s.small (h.variable * 2 + (1 - h.off)), o.weight)
-
-    by : (i : ℕ) → Dec (i < h.variable * 2 + (1 - h.off)) → Dec (h.variable * 2 + (1 - h.off) < i) → get_or (set sides (h.variable * 2 + (1 - h.off)) (get_or sides (h.variable * 2 + (1 - h.off)) 0 + h.weight)) i 0 ≤ (k + 1) * max_coef
-    by i (yes l) q = other i (λ z. omega arith)
-    by i (no l) (yes m) = other i (λ z. omega arith)
-    by i (no l) (no m) = own i (omega arith)
-
--- the same of a run of the same length, with all terms
-pub spread-as : (ts : List ℤ) (first n : ℕ) {k count : ℕ} → k ≡ count → {sides₀ sides₁ sides : List ℕ} → length sides₁ ≡ length sides₀ → Spread ts first k n sides₁ sides → Spread ts first count n sides₀ sides
-spread-as ts first n e {sides₀} {sides₁} {sides} l s = subst (λ (m : ℕ). Spread ts first m n sides₀ sides) e (record { same = s.same ∙ l; sums = s.sums; small = s.small })
+pub spread-more : (ts : List ℤ) (first k n : ℕ) {sides : List ℕ} → Spread ts first k n sides → (h : Half) → h ≡ half_of false (term_at ts (first + k)) → HalfOk n h → n * 2 ≤ length sides
+    → Spread ts first (k + 1) n (added sides h.term.variable (1 - h.term.off) h.term.weight)
+spread-more ts first k n {sides} s h e o room = record {
+  sums = λ a. sides-hit n sides h.term.variable (1 - h.term.off) h.term.weight o.variable (omega arith) room (bit a) (λ v l. bit-two a v)
+      ∙ ap₂ ◌+◌ (s.sums a) (gives-hit h a o.off ∙ ap (λ (x : Half). gives x a) e)
+      ∙ sym (gives-snoc (halves_at ts first k false) (half_of false (term_at ts (first + k))) a) ∙ ap (λ (hs : List Half). gives_all hs a) (sym (halves-snoc ts first k false));
+  small = λ i. omega (arith, sides-up n sides h.term.variable (1 - h.term.off) h.term.weight o.variable (omega arith) room i, s.small i, o.weight);
+}

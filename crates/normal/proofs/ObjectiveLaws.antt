@@ -7,6 +7,7 @@ use native.Mathlib.Omega.{arith}
 use lib.IntN.{ℤ, pos, ◌+ℤ◌}
 use lib.Signed.{◌≤ℤ◌}
 use Rattle.integers.proofs.SignedLaws.{up, dn, parts_add, le-to, le_from}
+use Rattle.charging.specs.declared.rows.Cost.{Cost as CostOf}
 use Rattle.charging.specs.Rows.{cost, bit}
 use Rattle.instance.specs.Terms.{sum}
 use Rattle.instance.specs.Meaning.{terms_at}
@@ -17,9 +18,9 @@ use Rattle.normal.proofs.HalfLaws.{halves-give}
 use Rattle.normal.proofs.SettleLaws.{cost-sides}
 
 -- the cost with what every assignment costs is the value with what was added
-pub objective-cost : (ts : List ℤ) (first count n o : ℕ) {sides₀ sides d₀ d dear₀ dear : List ℕ} → Spread ts first count n sides₀ sides → Settled o n sides d₀ d dear₀ dear
-    → (a : ℕ) → pos (cost n d dear o (bit a) + base_of n sides) ≡ sum (terms_at ts first count) a +ℤ pos (lost_all (halves_at ts first count false))
-objective-cost ts first count n o p s a = ap pos (cost-sides o n s a ∙ p.sums a) ∙ halves-give false (terms_at ts first count) a
+pub objective-cost : (ts : List ℤ) (first count n : ℕ) {sides : List ℕ} {costs : List CostOf} → Spread ts first count n sides → Settled n sides costs
+    → (a : ℕ) → pos (cost costs (bit a) + base_of n sides) ≡ sum (terms_at ts first count) a +ℤ pos (lost_all (halves_at ts first count false))
+objective-cost ts first count n p s a = ap pos (cost-sides s a ∙ p.sums a) ∙ halves-give false (terms_at ts first count) a
 
 -- so the order of costs is the order of values
 module _ {x y : ℤ} (b l c e : ℕ) (p : pos (c + b) ≡ x +ℤ pos l) (q : pos (e + b) ≡ y +ℤ pos l) where

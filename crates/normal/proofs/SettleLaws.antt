@@ -1,50 +1,40 @@
 -- Gaps and dear sides: an objective by what its variables cost on their dear sides. Assumes nothing.
-use mathlib.Core.Path.{◌≡◌, refl, sym, ap, ap₂, ◌∙◌, subst}
+use mathlib.Core.Path.{◌≡◌, refl, sym, ap, ◌∙◌, subst}
 use mathlib.Core.Bool.{Bool, true, false, cond}
 use mathlib.Core.List.{List}
-use Prim.Native.Nat.{ℕ, zero, suc, ◌+◌, ◌-◌, ◌*◌, ◌≤◌, ◌<◌, min}
+use Prim.Native.Nat.{ℕ, zero, suc, ◌+◌, ◌-◌, ◌*◌, ◌^◌, ◌≤◌, ◌<◌, min}
 use native.Mathlib.Omega.{arith}
 use native.Mathlib.Decide.{dec_lt}
 use lib.Dec.{eqb, ltb}
-use lib.ListN.{length, get_or, set, length-set}
-use lib.Seq.{get_or-set_same, get_or-set_other}
+use lib.ListN.{get_or}
 use borrow.Author.Tests.{lt-ltb, le-ltb}
-use Rattle.charging.specs.Rows.{pick, hit, span, cost, bit}
+use Rattle.charging.specs.declared.rows.Cost.{Cost as CostOf}
+use Rattle.charging.specs.Rows.{no_cost, pick, hit, span, cost, bit, Costs}
 use Rattle.charging.proofs.BitLaws.{bit-two}
 use Rattle.normal.specs.Costs.{sides_of, sides_sum, base_of, gap_of, dear_of, Settled}
 
--- ---- Settled
+-- ---- Costs
 
-pub settled-none : (o : ℕ) (sides d dear : List ℕ) → Settled o 0 sides d d dear dear
-settled-none o sides d dear = record {
-  gaps_same = refl;
-  dear_same = refl;
-  gaps = λ v h. absurd (omega arith);
-  dears = λ v h. absurd (omega arith);
-  gaps_below = λ i h. refl;
-  dears_below = λ i h. refl;
-}
-
--- one store more at place o + j
-stored : (l : List ℕ) (o j x : ℕ) (f : ℕ → ℕ) → o + j < length l → ((v : ℕ) → v < j → get_or l (o + v) 0 ≡ f v) → x ≡ f j → (v : ℕ) → v < j + 1 → get_or (set l (o + j) x) (o + v) 0 ≡ f v
-stored l o j x f h g e v m = by (dec_lt v j)
+gap-le : (z w m : ℕ) → z ≤ m → w ≤ m → gap_of z w ≤ m
+gap-le z w m h l = by (ltb z w)
   where
-    by : Dec (v < j) → get_or (set l (o + j) x) (o + v) 0 ≡ f v
-    by (yes u) = get_or-set_other l (o + j) (o + v) x 0 (λ z. omega arith) ∙ g v u
-    by (no u) = ap (λ (k : ℕ). get_or (set l (o + j) x) (o + k) 0) same ∙ get_or-set_same l (o + j) x 0 h ∙ e ∙ ap f (sym same)
-      where
-        same : v ≡ j
-        same = omega arith
+    by : (t : Bool) → cond t (w - z) (z - w) ≤ m
+    by true = omega arith
+    by false = omega arith
 
-pub settled-more : (o j : ℕ) (sides : List ℕ) {d₀ d dear₀ dear : List ℕ} {x y : ℕ} → Settled o j sides d₀ d dear₀ dear → o + j < length d₀ → o + j < length dear₀
-    → x ≡ gap_of (get_or sides (j * 2) 0) (get_or sides (j * 2 + 1) 0) → y ≡ dear_of (get_or sides (j * 2) 0) (get_or sides (j * 2 + 1) 0) → Settled o (j + 1) sides d₀ (set d (o + j) x) dear₀ (set dear (o + j) y)
-settled-more o j sides {d₀} {d} {dear₀} {dear} {x} {y} s g h e f = record {
-  gaps_same = simp length-set s.gaps_same;
-  dear_same = simp length-set s.dear_same;
-  gaps = stored d o j x (λ (v : ℕ). gap_of (get_or sides (v * 2) 0) (get_or sides (v * 2 + 1) 0)) (omega (arith, s.gaps_same)) s.gaps e;
-  dears = stored dear o j y (λ (v : ℕ). dear_of (get_or sides (v * 2) 0) (get_or sides (v * 2 + 1) 0)) (omega (arith, s.dear_same)) s.dears f;
-  gaps_below = λ i l. get_or-set_other d (o + j) i x 0 (λ z. omega arith) ∙ s.gaps_below i l;
-  dears_below = λ i l. get_or-set_other dear (o + j) i y 0 (λ z. omega arith) ∙ s.dears_below i l;
+dear-two : (z w : ℕ) → dear_of z w < 2
+dear-two z w = by (ltb z w)
+  where
+    by : (t : Bool) → cond t 1 0 < 2
+    by true = omega arith
+    by false = omega arith
+
+-- where no side is large, no cost is
+pub settled-costs : {n : ℕ} {sides : List ℕ} {costs : List CostOf} → Settled n sides costs → ((j : ℕ) → get_or sides j 0 ≤ 2 ^ 34) → Costs n costs
+settled-costs {n} {sides} s f = record {
+  long = s.long;
+  small = λ v l. subst (λ (c : CostOf). c.gap ≤ 2 ^ 34) (sym (s.each v l)) (gap-le (get_or sides (v * 2) 0) (get_or sides (v * 2 + 1) 0) (2 ^ 34) (f (v * 2)) (f (v * 2 + 1)));
+  two = λ v l. subst (λ (c : CostOf). c.dear < 2) (sym (s.each v l)) (dear-two (get_or sides (v * 2) 0) (get_or sides (v * 2 + 1) 0));
 }
 
 -- ---- cost
@@ -93,18 +83,16 @@ span-two f g e (suc n) h = omega (arith, span-two f g e n (λ v l. h v (omega ar
     last = omega arith
 
 -- the cost on the dear sides, with what every assignment costs, is what the sides come to
-pub cost-sides-of : (o n : ℕ) {sides d₀ d dear₀ dear : List ℕ} → Settled o n sides d₀ d dear₀ dear → (x : ℕ → ℕ) → ((v : ℕ) → v < n → x v < 2) → cost n d dear o x + base_of n sides ≡ sides_of n sides x
-cost-sides-of o n {sides} {d₀} {d} {dear₀} {dear} s x two =
-    span-two (λ (v : ℕ). hit (x v) (get_or dear (o + v) 0) (get_or d (o + v) 0)) (λ (v : ℕ). min (get_or sides (v * 2) 0) (get_or sides (v * 2 + 1) 0)) (λ (v : ℕ). get_or sides (v * 2 + x v) 0) n (λ v l. each v l)
+pub cost-sides-of : {n : ℕ} {sides : List ℕ} {costs : List CostOf} → Settled n sides costs → (x : ℕ → ℕ) → ((v : ℕ) → v < n → x v < 2) → cost costs x + base_of n sides ≡ sides_of n sides x
+cost-sides-of {n} {sides} {costs} s x two =
+    ap (λ (m : ℕ). span (λ (v : ℕ). hit (x v) (get_or costs v no_cost).dear (get_or costs v no_cost).gap) 0 m + base_of n sides) s.long
+    ∙ span-two (λ (v : ℕ). hit (x v) (get_or costs v no_cost).dear (get_or costs v no_cost).gap) (λ (v : ℕ). min (get_or sides (v * 2) 0) (get_or sides (v * 2 + 1) 0))
+      (λ (v : ℕ). get_or sides (v * 2 + x v) 0) n (λ v l. each v l)
   where
-    each : (v : ℕ) → v < n → hit (x v) (get_or dear (o + v) 0) (get_or d (o + v) 0) + min (get_or sides (v * 2) 0) (get_or sides (v * 2 + 1) 0) ≡ get_or sides (v * 2 + x v) 0
+    each : (v : ℕ) → v < n → hit (x v) (get_or costs v no_cost).dear (get_or costs v no_cost).gap + min (get_or sides (v * 2) 0) (get_or sides (v * 2 + 1) 0) ≡ get_or sides (v * 2 + x v) 0
     each v l =
-        ap₂ (λ (a b : ℕ). hit (x v) a b + min (get_or sides (v * 2) 0) (get_or sides (v * 2 + 1) 0)) (s.dears v l) (s.gaps v l)
+        ap (λ (c : CostOf). hit (x v) c.dear c.gap + min (get_or sides (v * 2) 0) (get_or sides (v * 2 + 1) 0)) (s.each v l)
         ∙ hit-side (get_or sides (v * 2) 0) (get_or sides (v * 2 + 1) 0) (x v) (two v l) ∙ side-at sides v (x v) (two v l)
 
-pub cost-sides : (o n : ℕ) {sides d₀ d dear₀ dear : List ℕ} → Settled o n sides d₀ d dear₀ dear → (a : ℕ) → cost n d dear o (bit a) + base_of n sides ≡ sides_sum n sides a
-cost-sides o n s a = cost-sides-of o n s (bit a) (λ v l. bit-two a v)
-
--- with all variables
-pub settled-as : (o : ℕ) {j n : ℕ} → j ≡ n → {sides d₀ d dear₀ dear : List ℕ} → Settled o j sides d₀ d dear₀ dear → Settled o n sides d₀ d dear₀ dear
-settled-as o e {sides} {d₀} {d} {dear₀} {dear} s = subst (λ (k : ℕ). Settled o k sides d₀ d dear₀ dear) e s
+pub cost-sides : {n : ℕ} {sides : List ℕ} {costs : List CostOf} → Settled n sides costs → (a : ℕ) → cost costs (bit a) + base_of n sides ≡ sides_sum n sides a
+cost-sides s a = cost-sides-of s (bit a) (λ v l. bit-two a v)

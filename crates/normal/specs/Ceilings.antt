@@ -17,19 +17,19 @@ pub record Narrow (rows : Rows) : Type 0 where
   pub few : length rows.terms.now ≤ max_terms + max_terms
   pub small : (k : ℕ) → k < length rows.terms.now → weight rows.terms.now k ≤ max_coef
 
--- What terms withhold: the weights of those that stand at the side where they give nothing.
-abbrev pub withheld : List Term → (ℕ → ℕ) → ℕ
-withheld terms x = span (λ (k : ℕ). hit (x (variable terms k)) (side terms k) (weight terms k)) 0 (length terms)
+-- What the first k terms withhold: the weights of those that stand at the side where they give nothing.
+abbrev pub withheld : List Term → (ℕ → ℕ) → ℕ → ℕ
+withheld terms x k = span (λ (j : ℕ). hit (x (variable terms j)) (side terms j) (weight terms j)) 0 k
 
--- The weights of terms.
-abbrev pub weights_in : List Term → ℕ
-weights_in terms = span (weight terms) 0 (length terms)
+-- The weights of the first k terms.
+abbrev pub weights_in : List Term → ℕ → ℕ
+weights_in terms k = span (weight terms) 0 k
 
--- What terms withhold is added to the sides.
-pub record Piled (n : ℕ) (terms : List Term) (sides₀ sides : List ℕ) : Type 0 where
+-- What the first k terms withhold is added to the sides.
+pub record Piled (n : ℕ) (terms : List Term) (k : ℕ) (sides₀ sides : List ℕ) : Type 0 where
   pub same : length sides ≡ length sides₀
-  pub sums : (x : ℕ → ℕ) → Bits n x → sides_of n sides x ≡ sides_of n sides₀ x + withheld terms x
-  pub small : (i : ℕ) → get_or sides i 0 ≤ get_or sides₀ i 0 + length terms * max_coef
+  pub sums : (x : ℕ → ℕ) → Bits n x → sides_of n sides x ≡ sides_of n sides₀ x + withheld terms x k
+  pub small : (i : ℕ) → get_or sides i 0 ≤ get_or sides₀ i 0 + k * max_coef
 
 -- What half row h withholds is added to the sides; where the rows are met that is r at most.
 pub record Heaps (rows : Rows) (h : ℕ) (sides₀ sides : List ℕ) (r : ℕ) : Type 0 where

@@ -20,8 +20,7 @@ abbrev pub base_of : ℕ → List ℕ → ℕ
 base_of n sides = span (λ (v : ℕ). min (get_or sides (v * 2) 0) (get_or sides (v * 2 + 1) 0)) 0 n
 
 -- The sides hold the terms: under each assignment they come to what the terms give; none is large.
-pub record Spread (ts : List ℤ) (first k n : ℕ) (sides₀ sides : List ℕ) : Type 0 where
-  pub same : length sides ≡ length sides₀
+pub record Spread (ts : List ℤ) (first k n : ℕ) (sides : List ℕ) : Type 0 where
   pub sums : (a : ℕ) → sides_sum n sides a ≡ gives_all (halves_at ts first k false) a
   pub small : (i : ℕ) → get_or sides i 0 ≤ k * max_coef
 

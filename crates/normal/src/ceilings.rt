@@ -2,8 +2,7 @@
 // they give nothing; so, where it is met, what is withheld is at most its weight less its need. That is a cost with a cap, and charging it
 // decides, say, rows that each ask for a site against a row that allows few. The sum of half rows is a half row too: what they withhold
 // together is at most the sum of what each may.
-ghost use Rattle.std.specs.Prelude.{List, ℕ, ◌*◌, ◌^◌, ◌≤◌, ◌<◌, length, get_or, take};
-ghost use Rattle.charging.specs.declared.rows.Cost.{Cost as CostOf};
+ghost use Rattle.std.specs.Prelude.{◌≡◌, ℕ, ◌*◌, ◌^◌, ◌≤◌, ◌<◌, length, get_or, take};
 ghost use Rattle.charging.specs.Meets.{count, Ceiled};
 ghost use Rattle.normal.specs.Ceilings.{Narrow, Heaps, Ceiling, CeilingIf, CeilingAll};
 
@@ -16,7 +15,6 @@ pub const MAX_CEILINGS: usize = 4;
 
 // How many terms a half row must have to be a ceiling, and to be one of the sum.
 const MIN_TERMS: usize = 8;
-
 const SUM_TERMS: usize = 3;
 
 // Whether half row h is tight: it has so many terms at least, and must reach more than half of what it weighs.
@@ -42,21 +40,21 @@ fn lay_ceiling(rows: &Rows<'_>, h: usize, costs: &mut [Cost]) -> u64
 }
 
 // Lays half row h out as one more ceiling, if it is tight and there is room; answers how many there are then.
-fn lay_if(rows: &Rows<'_>, h: usize, count: usize, costs: &mut [Cost], caps: &mut [u64]) -> usize
+fn lay_if(rows: &Rows<'_>, h: usize, laid: usize, costs: &mut [Cost], caps: &mut [u64]) -> usize
     requires narrow { Narrow rows.now }
-    requires h_in_bounds { (h < count rows.now) × (count ≤ 4) × (4 * rows.now.n ≤ length costs.old) × (4 ≤ length caps.old) }
-    requires all { CeilingAll rows.now count costs.old caps.old }
+    requires h_in_bounds { (h < count rows.now) × (laid ≤ 4) × (4 * rows.now.n ≤ length costs.old) × (4 ≤ length caps.old) }
+    requires all { CeilingAll rows.now laid costs.old caps.old }
     ensures { (result ≤ 4) × CeilingAll rows.now result costs.new caps.new }
 {
-    if MAX_CEILINGS <= count {
-        return count;
+    if MAX_CEILINGS <= laid {
+        return laid;
     }
     if !is_tight(rows, h, MIN_TERMS) {
-        return count;
+        return laid;
     }
-    let from = count * rows.n;
-    caps[count] = lay_ceiling(rows, h, &mut costs[from..from + rows.n]);
-    count + 1
+    let from = laid * rows.n;
+    caps[laid] = lay_ceiling(rows, h, &mut costs[from..from + rows.n]);
+    laid + 1
 }
 
 // Adds what half row h withholds to the sides, if it is tight; answers how much that is at most, 0 where it is not tight.
@@ -84,7 +82,9 @@ fn lay_sum(rows: &Rows<'_>, costs: &mut [Cost]) -> Option<u64>
     for h in 0..rows.needs.len() {
         let more = heap_if(rows, h, &mut sides);
         slack += more;
-        summed += usize::from(0 < more);
+        if 0 < more {
+            summed += 1;
+        }
     }
     let cap = lay_heap(&sides, slack, costs);
     if summed < 2 {

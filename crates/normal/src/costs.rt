@@ -13,20 +13,21 @@ use instance::{Entry, Term};
 // Two sides for each variable.
 pub const MAX_SIDES: usize = Term::MAX_VARIABLE as usize * 2;
 
-// What the terms of an objective give, added up for each side of their variables, from 0 on.
-fn spread(terms: &[i32], first: usize, count: usize, n: usize, sides: &mut [u64])
+// What the terms of an objective give, added up for each side of their variables.
+fn spread(terms: &[i32], first: usize, count: usize, n: usize) -> [u64; MAX_SIDES]
     requires term_room_in_bounds { term_room ≤ length terms.now }
     requires count_bound { first + count ≤ max_terms }
     requires terms_ok { TermsOk terms.now (first + count) }
     requires by_index { (k : ℕ) → k < first + count → nat_abs (term_at terms.now k).lit ≤ n }
-    requires n_le_max_variable { (n ≤ max_variable) × (n * 2 ≤ length sides.old) }
-    ensures { Spread terms.now first count n sides.old sides.new }
+    requires n_le_max_variable { n ≤ max_variable }
+    ensures { Spread terms.now first count n result }
 {
-    sides.fill(0);
-    for k in first..first + count {
-        let h = half_of(false, Term::at(terms, k));
+    let mut sides = [0u64; MAX_SIDES];
+    for k in 0..count {
+        let h = half_of(false, Term::at(terms, first + k));
         sides[usize::from(h.term.variable) * 2 + usize::from(1 - h.term.off)] += h.term.weight;
     }
+    sides
 }
 
 // A variable's cost by what each of its sides costs.
@@ -56,10 +57,8 @@ fn lay_objective(terms: &[i32], rows: &[i64], i: usize, costs: &mut [Cost])
     requires n_value { length costs.old ≡ (meaning terms.now rows.now).variables }
     ensures { Priced terms.now rows.now (length costs.old) i costs.new }
 {
-    let mut sides = [0u64; MAX_SIDES];
     let e = Entry::at(rows, i);
-    spread(terms, e.first, e.count, costs.len(), &mut sides);
-    settle(&sides, costs);
+    settle(&spread(terms, e.first, e.count, costs.len()), costs);
 }
 
 // Lays the first `count` objectives out, the n costs of each one after the other.

@@ -14,7 +14,7 @@ fn pile(n: usize, terms: &[Term], sides: &mut [u64])
     requires few { length terms.now ≤ max_terms + max_terms }
     requires each { (k : ℕ) → k < length terms.now → (variable terms.now k < n) × ((side terms.now k < 2) × (weight terms.now k ≤ max_coef)) }
     requires n_le_max_variable { (n ≤ max_variable) × (n * 2 ≤ length sides.old) × ((i : ℕ) → get_or sides.old i 0 ≤ 2 ^ 40) }
-    ensures { Piled n terms.now sides.old sides.new }
+    ensures { Piled n terms.now (length terms.now) sides.old sides.new }
 {
     for t in terms {
         sides[usize::from(t.variable) * 2 + usize::from(t.off)] += t.weight;
@@ -24,7 +24,7 @@ fn pile(n: usize, terms: &[Term], sides: &mut [u64])
 // What terms weigh.
 pub fn weight_of(terms: &[Term]) -> u64
     requires { (length terms.now ≤ max_terms + max_terms) × ((k : ℕ) → k < length terms.now → weight terms.now k ≤ max_coef) }
-    ensures { (result ≡ weights_in terms.now) × (result ≤ length terms.now * max_coef) }
+    ensures { (result ≡ weights_in terms.now (length terms.now)) × (result ≤ length terms.now * max_coef) }
 {
     let mut sum: u64 = 0;
     for t in terms {

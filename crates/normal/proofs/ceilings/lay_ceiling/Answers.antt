@@ -1,0 +1,18 @@
+-- What one row withholds, laid out as a ceiling.
+use native.Mathlib.Omega.{arith}
+use Rattle.normal.proofs.CostLaws.{zeros}
+use Rattle.normal.proofs.CeilingLaws.{row-few, heap_one, ceiling-one}
+use Rattle.normal.proofs.ceilings.lay_ceiling.Goals as goal
+
+pub heap_row-slack-requires-clause-h_in_bounds : goal.heap_row-slack-requires-clause-h_in_bounds
+heap_row-slack-requires-clause-h_in_bounds c = (c.requires.h_in_bounds.0, omega (arith, c.args.rows.now.table.every.few), λ j. omega (arith, zeros 128 j))
+
+pub lay_heap-requires : goal.lay_heap-requires
+lay_heap-requires c =
+    let few = row-few c.args.rows.now c.requires.narrow c.args.h c.requires.h_in_bounds.0 in
+    (omega (arith, c.args.rows.now.table.every.few), omega (arith, c.args.rows.now.table.every.few), λ j. omega (arith, few, zeros 128 j, c.heap_row-slack.ensures.small j))
+
+pub returns : goal.returns
+returns c =
+    let few = row-few c.args.rows.now c.requires.narrow c.args.h c.requires.h_in_bounds.0 in
+    ceiling-one (heap_one (zeros 128) c.heap_row-slack.ensures) few c.requires.h_in_bounds.1 c.lay_heap.ensures.settled c.lay_heap.ensures.cap

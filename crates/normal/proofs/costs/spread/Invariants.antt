@@ -1,0 +1,10 @@
+-- Invariant (Spread): under each assignment the sides come to what the terms so far give; there are two for each variable there can be.
+use mathlib.Core.Path.{◌≡◌}
+use lib.ListN.{length}
+use mathlib.Core.Path.{◌≡◌}
+use lib.ListN.{length}
+use Rattle.normal.specs.Costs.{Spread}
+use Rattle.normal.proofs.costs.spread.Given as goal
+
+abbrev pub invariant-loop-k : goal.invariant-loop-k
+invariant-loop-k l = (length l.sides ≡ 128) × Spread l.terms l.first l.k l.n l.sides
