@@ -2,7 +2,6 @@
 -- Assumes nothing.
 use mathlib.Core.Path.{◌≡◌, refl, sym, ap, ◌∙◌, subst}
 use mathlib.Core.Logic.{◌↔◌}
-use mathlib.Core.Bool.{Bool, true, false}
 use mathlib.Core.List.Memᴰ
 use mathlib.Core.List.{List, [], ◌∷◌, Memᴰ}
 use Prim.Native.Nat.{ℕ, ◌*◌, ◌≤◌, ◌<◌}
@@ -10,12 +9,9 @@ use native.Mathlib.Nat.{div-mul-le_self}
 use native.Mathlib.Omega.{arith}
 use lib.IntN.{ℤ, pos}
 use lib.ListN.{length, get_or, take}
-use lib.Seq.{take-length}
+use Rattle.std.specs.Prelude.{Option, Some, None, Result, Ok, Err}
+use Rattle.std.proofs.lemmas.List.{take_all}
 use lib.Signed.{◌≤ℤ◌}
-use Rattle.instance.specs.Answers.{SizesOf, CheckedAs}
-use Rattle.instance.specs.declared.tables.Checked.{Checked}
-use Rattle.instance.specs.declared.tables.Checked.TheVariants.{Sizes, Refused}
-use Rattle.instance.specs.declared.tables.Instance.{Instance as Sized}
 use Rattle.instance.specs.Tables.{IsInstance}
 use Rattle.instance.specs.Meaning.{Instance, meaning, vector, Feasible}
 use Rattle.judge.specs.Judging.{padded}
@@ -25,74 +21,68 @@ use Rattle.points.specs.Vectors.{LeAll}
 use Rattle.points.specs.Fronts.{Candidate}
 use Rattle.points.proofs.PlaceLaws.{le_all-at}
 use Rattle.front.specs.Listing.{FrontOf, room, values_left, models_left, Lists}
-use Rattle.front.specs.Answers.{Answer, ListedAs}
-use Rattle.front.specs.declared.answer.Listed.{Listed}
-use Rattle.front.specs.declared.answer.Listed.TheVariants.{Done, NotInstance, Larger}
+use Rattle.front.specs.Answers.{ListedAs}
+use Rattle.front.specs.declared.errors.ListError.{ListError}
+use Rattle.front.specs.declared.errors.ListError.TheVariants.{NotInstance, Larger}
 use Rattle.front.proofs.FrontLaws.{front-only}
 use Rattle.front.proofs.ListingLaws.{candidate}
 
 -- ---- the code's cases
 
-pub checked-sizes : {ts rs : List ℤ} {r : Checked} {s : Sized} → CheckedAs ts rs r → r ≡ Sizes s → SizesOf ts rs s
-checked-sizes {ts} {rs} p e = subst (CheckedAs ts rs) e p
-
-pub checked_refused : {ts rs : List ℤ} {r : Checked} → CheckedAs ts rs r → r ≡ Refused → IsInstance ts rs → ⊥
-checked_refused {ts} {rs} p e = subst (CheckedAs ts rs) e p
-
 -- the room lies within the runs
 pub room_fits : (vs : List ℤ) (ms : List ℕ) {r : ℕ} → r ≡ room vs ms → (r ≤ max_points) × (r * 4 ≤ length vs) × (r ≤ length ms)
 room_fits vs ms e = (omega arith, omega (arith, div-mul-le_self (length vs) 4), omega arith)
 
-module _ {ts rs vs : List ℤ} {ms : List ℕ} {vs' : List ℤ} {ms' : List ℕ} {r count : ℕ} {b : Bool} (is : IsInstance ts rs) (re : r ≡ room vs ms) (l : Lists ts rs r vs ms vs' ms' b count) where
-  pub listed-all : b ≡ true → ListedAs ts rs vs ms vs' ms' (Done count)
-  listed-all e =
-      let w = l.whole e in
-      let whole : take count l.front ≡ l.front = ap (λ (k : ℕ). take k l.front) w.0 ∙ take-length l.front in
+module _ {ts rs vs : List ℤ} {ms : List ℕ} {vs' : List ℤ} {ms' : List ℕ} {r : ℕ} {count : Option ℕ} (is : IsInstance ts rs) (re : r ≡ room vs ms) (l : Lists ts rs r vs ms vs' ms' count) where
+  pub listed-all : {k : ℕ} → count ≡ Some k → ListedAs ts rs vs ms vs' ms' (Ok k)
+  listed-all {k} e =
+      let w = l.whole k e in
+      let all : take r l.front ≡ l.front = take_all r l.front w.1 in
       record {
+        numbered = refl;
         is = is;
         front = l.front;
         is_front = l.is_front;
         fits = omega (arith, w.1);
-        answer = ap (λ (k : ℕ). record { number = 0; points = k }) w.0;
-        values = l.values ∙ ap (λ (xs : List Candidate). values_left xs vs) whole;
-        models = l.models ∙ ap (λ (xs : List Candidate). models_left xs ms) whole;
+        count = w.0;
+        values = l.values ∙ ap (λ (xs : List Candidate). values_left xs vs) all;
+        models = l.models ∙ ap (λ (xs : List Candidate). models_left xs ms) all;
       }
 
-  pub listed-first : b ≡ false → ListedAs ts rs vs ms vs' ms' (Larger count)
+  pub listed-first : count ≡ None → ListedAs ts rs vs ms vs' ms' (Err (Larger r))
   listed-first e =
-      let p = l.part e in
-      let n : count ≡ room vs ms = p.0 ∙ re in
       record {
+        numbered = refl;
         is = is;
         front = l.front;
         is_front = l.is_front;
-        larger = omega (arith, p.1);
-        answer = ap (λ (k : ℕ). record { number = 11; points = k }) n;
-        values = l.values ∙ ap (λ (k : ℕ). values_left (take k l.front) vs) n;
-        models = l.models ∙ ap (λ (k : ℕ). models_left (take k l.front) ms) n;
+        larger = omega (arith, l.part e);
+        count = re;
+        values = l.values ∙ ap (λ (k : ℕ). values_left (take k l.front) vs) re;
+        models = l.models ∙ ap (λ (k : ℕ). models_left (take k l.front) ms) re;
       }
 
 -- ---- the answers are determined
 
 module _ (ts rs vs : List ℤ) (ms : List ℕ) where
   -- Two answers that the contract allows are equal, and so is all lent memory: there is one front, and both are told by it.
-  pub listed-unique : (r s : Listed) (vs₁ vs₂ : List ℤ) (ms₁ ms₂ : List ℕ) → ListedAs ts rs vs ms vs₁ ms₁ r → ListedAs ts rs vs ms vs₂ ms₂ s → (r ≡ s) × (vs₁ ≡ vs₂) × (ms₁ ≡ ms₂)
-  listed-unique (Done k) (Done m) vs₁ vs₂ ms₁ ms₂ p q =
+  pub listed-unique : (r s : Result ℕ ListError) (vs₁ vs₂ : List ℤ) (ms₁ ms₂ : List ℕ) → ListedAs ts rs vs ms vs₁ ms₁ r → ListedAs ts rs vs ms vs₂ ms₂ s → (r ≡ s) × (vs₁ ≡ vs₂) × (ms₁ ≡ ms₂)
+  listed-unique (Ok k) (Ok m) vs₁ vs₂ ms₁ ms₂ p q =
       let e : p.front ≡ q.front = front-only (meaning ts rs) p.is_front q.is_front in (
-        ap Done (ap (λ (a : Answer). a.points) p.answer ∙ ap length e ∙ sym (ap (λ (a : Answer). a.points) q.answer)),
+        ap Ok (p.count ∙ ap length e ∙ sym q.count),
         p.values ∙ ap (λ (xs : List Candidate). values_left xs vs) e ∙ sym q.values,
         p.models ∙ ap (λ (xs : List Candidate). models_left xs ms) e ∙ sym q.models,
       )
-  listed-unique (Done k) NotInstance vs₁ vs₂ ms₁ ms₂ p q = absurd (q.none p.is)
-  listed-unique (Done k) (Larger m) vs₁ vs₂ ms₁ ms₂ p q = absurd (omega (arith, p.fits, q.larger, ap length (front-only (meaning ts rs) p.is_front q.is_front)))
-  listed-unique NotInstance (Done m) vs₁ vs₂ ms₁ ms₂ p q = absurd (p.none q.is)
-  listed-unique NotInstance NotInstance vs₁ vs₂ ms₁ ms₂ p q = (refl, p.values ∙ sym q.values, p.models ∙ sym q.models)
-  listed-unique NotInstance (Larger m) vs₁ vs₂ ms₁ ms₂ p q = absurd (p.none q.is)
-  listed-unique (Larger k) (Done m) vs₁ vs₂ ms₁ ms₂ p q = absurd (omega (arith, q.fits, p.larger, ap length (front-only (meaning ts rs) p.is_front q.is_front)))
-  listed-unique (Larger k) NotInstance vs₁ vs₂ ms₁ ms₂ p q = absurd (q.none p.is)
-  listed-unique (Larger k) (Larger m) vs₁ vs₂ ms₁ ms₂ p q =
+  listed-unique (Ok k) (Err NotInstance) vs₁ vs₂ ms₁ ms₂ p q = absurd (q.is_not p.is)
+  listed-unique (Ok k) (Err (Larger m)) vs₁ vs₂ ms₁ ms₂ p q = absurd (omega (arith, p.fits, q.larger, ap length (front-only (meaning ts rs) p.is_front q.is_front)))
+  listed-unique (Err NotInstance) (Ok m) vs₁ vs₂ ms₁ ms₂ p q = absurd (p.is_not q.is)
+  listed-unique (Err NotInstance) (Err NotInstance) vs₁ vs₂ ms₁ ms₂ p q = (refl, p.values ∙ sym q.values, p.models ∙ sym q.models)
+  listed-unique (Err NotInstance) (Err (Larger m)) vs₁ vs₂ ms₁ ms₂ p q = absurd (p.is_not q.is)
+  listed-unique (Err (Larger k)) (Ok m) vs₁ vs₂ ms₁ ms₂ p q = absurd (omega (arith, q.fits, p.larger, ap length (front-only (meaning ts rs) p.is_front q.is_front)))
+  listed-unique (Err (Larger k)) (Err NotInstance) vs₁ vs₂ ms₁ ms₂ p q = absurd (q.is_not p.is)
+  listed-unique (Err (Larger k)) (Err (Larger m)) vs₁ vs₂ ms₁ ms₂ p q =
       let e : p.front ≡ q.front = front-only (meaning ts rs) p.is_front q.is_front in (
-        ap Larger (ap (λ (a : Answer). a.points) (p.answer ∙ sym q.answer)),
+        ap (λ (r : ℕ). Err (Larger r)) (p.count ∙ sym q.count),
         p.values ∙ ap (λ (xs : List Candidate). values_left (take (room vs ms) xs) vs) e ∙ sym q.values,
         p.models ∙ ap (λ (xs : List Candidate). models_left (take (room vs ms) xs) ms) e ∙ sym q.models,
       )
@@ -131,19 +121,19 @@ front-none (x ∷ xs) f h = absurd (h x.model (f.members x (Memᴰ.head refl)).f
 
 module _ (ts rs vs : List ℤ) (ms : List ℕ) (vs' : List ℤ) (ms' : List ℕ) where
   -- For each feasible assignment one at least as good is listed.
-  pub listed-complete : {k : ℕ} (l : ListedAs ts rs vs ms vs' ms' (Done k)) (a : ℕ) → Feasible (meaning ts rs) a → AtLeastAsGood (meaning ts rs) l.front a
+  pub listed-complete : {k : ℕ} (l : ListedAs ts rs vs ms vs' ms' (Ok k)) (a : ℕ) → Feasible (meaning ts rs) a → AtLeastAsGood (meaning ts rs) l.front a
   listed-complete l = front-good l.is_front
 
   -- The list of an instance is empty exactly where nothing is feasible.
-  pub listed-empty : IsInstance ts rs → (r : Listed) → ListedAs ts rs vs ms vs' ms' r → (r ≡ Done 0) ↔ ((a : ℕ) → Feasible (meaning ts rs) a → ⊥)
+  pub listed-empty : IsInstance ts rs → (r : Result ℕ ListError) → ListedAs ts rs vs ms vs' ms' r → (r ≡ Ok 0) ↔ ((a : ℕ) → Feasible (meaning ts rs) a → ⊥)
   listed-empty is r p = (λ e. empty (subst (ListedAs ts rs vs ms vs' ms') e p), none r p)
     where
-      empty : ListedAs ts rs vs ms vs' ms' (Done 0) → (a : ℕ) → Feasible (meaning ts rs) a → ⊥
+      empty : ListedAs ts rs vs ms vs' ms' (Ok 0) → (a : ℕ) → Feasible (meaning ts rs) a → ⊥
       empty l a h =
           let g = listed-complete l a h in
-          none-listed l.front g.by (sym (ap (λ (x : Answer). x.points) l.answer)) g.listed
+          none-listed l.front g.by (sym l.count) g.listed
 
-      none : (s : Listed) → ListedAs ts rs vs ms vs' ms' s → ((a : ℕ) → Feasible (meaning ts rs) a → ⊥) → s ≡ Done 0
-      none (Done k) l h = ap Done (ap (λ (x : Answer). x.points) l.answer ∙ front-none l.front l.is_front h)
-      none NotInstance l h = absurd (l.none is)
-      none (Larger k) l h = absurd (omega (arith, l.larger, front-none l.front l.is_front h))
+      none : (s : Result ℕ ListError) → ListedAs ts rs vs ms vs' ms' s → ((a : ℕ) → Feasible (meaning ts rs) a → ⊥) → s ≡ Ok 0
+      none (Ok k) l h = ap Ok (l.count ∙ front-none l.front l.is_front h)
+      none (Err NotInstance) l h = absurd (l.is_not is)
+      none (Err (Larger k)) l h = absurd (omega (arith, l.larger, front-none l.front l.is_front h))

@@ -8,6 +8,7 @@ use native.Mathlib.Omega.{arith}
 use lib.IntN.{ℤ, pos, nat_abs}
 use lib.ListN.{length, get_or, take, drop, length-append, length-map, get_or-append, get_or-map}
 use lib.Seq.{get_or-append-add, length-take-le}
+use Rattle.std.specs.Prelude.{Result, Ok, Err}
 use Rattle.instance.specs.Lists.{tabulate}
 use Rattle.instance.specs.Tables.{objectives_in, IsInstance}
 use Rattle.instance.specs.Meaning.{meaning, vector}
@@ -23,8 +24,8 @@ use Rattle.points.specs.Lists.{point_at, Proper}
 use Rattle.points.proofs.FrontLaws.{candidate-same}
 use Rattle.points.proofs.RunLaws.{take-member, take-rising, runs-rise, runs-apart}
 use Rattle.front.specs.Listing.{CandidateOf, FrontOf, room, values_of, models_of, values_left, models_left}
-use Rattle.front.specs.Answers.{Answer, ListedAs}
-use Rattle.front.specs.declared.answer.Listed.TheVariants.{Done, Larger}
+use Rattle.front.specs.Answers.{ListedAs}
+use Rattle.front.specs.declared.errors.ListError.TheVariants.{Larger}
 use Rattle.front.proofs.StepLaws.{values_length, candidate-four}
 
 -- ---- points by place
@@ -131,27 +132,27 @@ proper-as {o} {n} {j} {k} {vs} {vs'} {ms} {ms'} e f g p =
 
 module _ {ts rs vs : List ℤ} {ms : List ℕ} {vs' : List ℤ} {ms' : List ℕ} {k : ℕ} where
   -- The first k points of the runs are the front: what is known of it (front-good of AnswerLaws) is known of them.
-  pub listed-points : (l : ListedAs ts rs vs ms vs' ms' (Done k)) → tabulate (point_at vs' ms') 0 k ≡ l.front
+  pub listed-points : (l : ListedAs ts rs vs ms vs' ms' (Ok k)) → tabulate (point_at vs' ms') 0 k ≡ l.front
   listed-points l =
-      ap (λ (n : ℕ). tabulate (point_at vs' ms') 0 n) (ap (λ (a : Answer). a.points) l.answer)
+      ap (λ (n : ℕ). tabulate (point_at vs' ms') 0 n) l.count
       ∙ ap₂ (λ (p : List ℤ) (q : List ℕ). tabulate (point_at p q) 0 (length l.front)) l.values l.models
       ∙ runs-points l.front (λ x m. candidate-four x (l.is_front.members x m)) vs ms
 
-  pub listed-front : ListedAs ts rs vs ms vs' ms' (Done k) → FrontOf (meaning ts rs) (tabulate (point_at vs' ms') 0 k)
+  pub listed-front : ListedAs ts rs vs ms vs' ms' (Ok k) → FrontOf (meaning ts rs) (tabulate (point_at vs' ms') 0 k)
   listed-front l = subst (FrontOf (meaning ts rs)) (sym (listed-points l)) l.is_front
 
   -- A front that is done is proper,
-  pub listed-proper : ListedAs ts rs vs ms vs' ms' (Done k) → Proper (objectives_in rs) (meaning ts rs).variables k vs' ms'
+  pub listed-proper : ListedAs ts rs vs ms vs' ms' (Ok k) → Proper (objectives_in rs) (meaning ts rs).variables k vs' ms'
   listed-proper l =
-      proper-as (ap (λ (a : Answer). a.points) l.answer) l.values l.models
+      proper-as l.count l.values l.models
       (runs-proper l.is l.front l.is_front.members vs ms l.is_front.rising l.is_front.apart (omega (arith, l.fits)))
 
   -- and so are the first R points of one that is larger than the room.
-  pub first-proper : ListedAs ts rs vs ms vs' ms' (Larger k) → Proper (objectives_in rs) (meaning ts rs).variables k vs' ms'
+  pub first-proper : ListedAs ts rs vs ms vs' ms' (Err (Larger k)) → Proper (objectives_in rs) (meaning ts rs).variables k vs' ms'
   first-proper l =
       let xs = take (room vs ms) l.front in
       let within : (x : Candidate) → Memᴰ x xs → Memᴰ x l.front = take-member (room vs ms) l.front in
       let n : length xs ≡ room vs ms = length-take-le (room vs ms) l.front (omega (arith, l.larger)) in
-      proper-as (ap (λ (a : Answer). a.points) l.answer ∙ sym n) l.values l.models
+      proper-as (l.count ∙ sym n) l.values l.models
       (runs-proper l.is xs (λ x m. l.is_front.members x (within x m)) vs ms (take-rising (room vs ms) l.front l.is_front.rising)
       (λ x y m u. l.is_front.apart x y (within x m) (within y u)) (omega (arith, n)))

@@ -27,7 +27,9 @@ const NO_TERM: Term = Term {
     variable: 0,
     off: 0,
 };
+
 const NO_COST: Cost = Cost { gap: 0, dear: 0 };
+
 const NO_TURN: Turn = Turn {
     row: 0,
     one: 0,
@@ -92,7 +94,15 @@ fn list_instance(
     let mut laid = [NO_TERM; Filled::TERMS];
     let mut needs = [0; Filled::HALVES];
     let mut turns = [NO_TURN; Filled::HALVES];
-    let filled = lay_rows(terms, rows, k, sizes.rows, &mut starts, &mut laid, &mut needs);
+    let filled = lay_rows(
+        terms,
+        rows,
+        k,
+        sizes.rows,
+        &mut starts,
+        &mut laid,
+        &mut needs,
+    );
     let halves = filled.halves;
     let plain = Rows {
         n: sizes.variables as usize,
@@ -103,8 +113,11 @@ fn list_instance(
     };
     by_length(&plain, &mut turns);
     let ordered = Rows {
+        n: plain.n,
+        starts: plain.starts,
+        terms: plain.terms,
+        needs: plain.needs,
         turns: &turns[..halves],
-        ..plain
     };
     list_rows(terms, rows, k, &ordered, room, values, models)
 }
