@@ -14,7 +14,7 @@ use Rattle.judge.specs.Answers.{answer_of}
 use Rattle.judge.proofs.AnswerLaws.{judged-unique}
 use Rattle.blocks.proofs.ByteLaws.{Bytes}
 use Rattle.front.specs.declared.errors.ListError.{ListError}
-use Rattle.front.specs.Answers.{answer_of as listedAnswer}
+use Rattle.front.specs.Answers.{listed_number, listed_value}
 use Rattle.front.proofs.AnswerLaws.{listed-unique}
 use Rattle.files.specs.declared.errors.WriteFileError.{WriteFileError}
 use Rattle.files.specs.declared.errors.ReadFileError.{ReadFileError}
@@ -44,7 +44,7 @@ packed-judged-unique {ts} {rs} {a} x y =
 pub packed-listed-unique : {ts rs vs vs' vs'' : List ℤ} {ms ms' ms'' : List ℕ} {r r' : ℕ} → PackedListed ts rs vs ms vs' ms' r → PackedListed ts rs vs ms vs'' ms'' r' → (r ≡ r') × ((vs' ≡ vs'') × (ms' ≡ ms''))
 packed-listed-unique {ts} {rs} {vs} {vs'} {vs''} {ms} {ms'} {ms''} x y =
     let same = listed-unique ts rs vs ms x.answer y.answer vs' vs'' ms' ms'' x.allowed y.allowed in
-    (x.word ∙ (ap (λ (a : Result ℕ ListError). packed (listedAnswer a).number (listedAnswer a).points) same.0 ∙ sym y.word), (same.1, same.2))
+    (x.word ∙ (ap (λ (a : Result ℕ ListError). packed (listed_number a) (listed_value a)) same.0 ∙ sym y.word), (same.1, same.2))
 
 -- ---- writing a file
 pub packed-filed-unique : {o n p : ℕ} {vs : List ℤ} {ms found left left' : List ℕ} {r r' : ℕ}

@@ -45,6 +45,7 @@ pub fn put_front(out: &mut [u8], points: u64, objectives: u64, n: u64, cut: bool
     requires { 256 ≤ length out.old }
     ensures left { out.new ≡ overwrite out.old 0 (front_line points objectives n cut) }
     ensures next { result ≡ length (front_line points objectives n cut) }
+    ensures small { result ≤ 256 }
 {
     let a = put_word(out, 0, b"front ", points);
     let b = put_word(out, a, b" objectives ", objectives);
@@ -82,6 +83,7 @@ pub fn put_point(out: &mut [u8], place: u64, values: &[i64], model: u64) -> usiz
     requires few { length values.now ≤ 4 }
     ensures left { out.new ≡ overwrite out.old 0 (point_line place values.now model) }
     ensures next { result ≡ length (point_line place values.now model) }
+    ensures small { result ≤ 256 }
 {
     let a = put_word(out, 0, b"point ", place);
     let b = put_bytes(out, a, b" values");
@@ -96,6 +98,7 @@ pub fn put_refused(out: &mut [u8], number: u64, statement: u64) -> usize
     requires { 256 ≤ length out.old }
     ensures left { out.new ≡ overwrite out.old 0 (refused_line number statement) }
     ensures next { result ≡ length (refused_line number statement) }
+    ensures small { result ≤ 256 }
 {
     let a = put_word(out, 0, b"refused ", number);
     let b = put_word(out, a, b" statement ", statement);

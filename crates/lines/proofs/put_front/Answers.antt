@@ -51,4 +51,4 @@ pub returns : goal.returns
 returns c =
     let r =
     after-variables c.args.out.now c.args.points c.args.objectives c.args.n c.args.cut c.requires (c.put_word-a.ensures.left, c.put_word-a.ensures.next) (c.put_word-b.ensures.left, c.put_word-b.ensures.next) (c.put_word-c.ensures.left, c.put_word-c.ensures.next) in
-    let p = rest-put-all r (c.put_end.ensures.left, c.put_end.ensures.next) in record { left = p.0; next = omega (arith, p.1) }
+    let p = rest-put-all r (c.put_end.ensures.left, c.put_end.ensures.next) in record { left = p.0; next = omega (arith, p.1); small = omega (arith, p.1, front-most c.args.points c.args.objectives c.args.n c.args.cut) }

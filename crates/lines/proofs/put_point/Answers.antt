@@ -60,4 +60,4 @@ pub returns : goal.returns
 returns c =
     let r =
     after-model c.args.out.now c.args.place c.args.values.now c.args.model c.requires.in_bounds c.requires.few (c.put_word-a.ensures.left, c.put_word-a.ensures.next) (c.put_bytes-b.ensures.left, c.put_bytes-b.ensures.next) (c.put_values-c.ensures.left, c.put_values-c.ensures.next) (c.put_word-d.ensures.left, c.put_word-d.ensures.next) in
-    let p = rest-put-all r (c.put_byte.ensures.left, c.put_byte.ensures.next) in record { left = p.0; next = omega (arith, p.1) }
+    let p = rest-put-all r (c.put_byte.ensures.left, c.put_byte.ensures.next) in record { left = p.0; next = omega (arith, p.1); small = omega (arith, p.1, point-most c.args.place c.args.values.now c.args.model c.requires.few) }
