@@ -8,8 +8,6 @@ ghost use Rattle.std.specs.Prelude.{◌≡◌, [], ◌∷◌, ◌+◌, ◌-◌, 
 ghost use Rattle.decimal.specs.Bytes.{overwrite};
 ghost use Rattle.decimal.specs.Decimal.{decimal, digit_byte, integer, signed, sign_byte, is_digit, read_numeral};
 
-use integers::magnitude;
-
 // The most digits of a numeral.
 pub const MAX_DIGITS: usize = 10;
 
@@ -21,6 +19,7 @@ pub fn decimal_len(x: u64) -> usize
 {
     let mut rest = x;
     let mut n = 1;
+    // Kept as a while: each turn divides, and how many there are is what is asked.
     while 10 <= rest {
         rest = rest / 10;
         n += 1;
@@ -39,7 +38,7 @@ pub fn sign_byte(x: i64) -> u8
 pub fn integer_len(x: i64) -> usize
     ensures { result ≡ length (integer x) }
 {
-    let n = decimal_len(magnitude(x));
+    let n = decimal_len(x.unsigned_abs());
     if x < 0 { 1 + n } else { n }
 }
 
@@ -47,7 +46,7 @@ pub fn integer_len(x: i64) -> usize
 pub fn signed_len(x: i64) -> usize
     ensures { result ≡ length (signed x) }
 {
-    1 + decimal_len(magnitude(x))
+    1 + decimal_len(x.unsigned_abs())
 }
 
 // ---- Writing
@@ -90,6 +89,7 @@ pub fn put_decimal(out: &mut [u8], at: usize, x: u64) -> usize
     let end = at + decimal_len(x);
     let mut rest = x;
     let mut i = end - 1;
+    // Kept as a while: each turn divides what is left, and no library function gives the digits.
     while 10 <= rest {
         out[i] = digit_byte(rest % 10);
         rest = rest / 10;
@@ -105,7 +105,7 @@ pub fn put_integer(out: &mut [u8], at: usize, x: i64) -> usize
     ensures left { out.new ≡ overwrite out.old at (integer x) }
     ensures next { result ≡ at + length (integer x) }
 {
-    let size = magnitude(x);
+    let size = x.unsigned_abs();
     if x < 0 {
         let from = put_byte(out, at, b'-');
         return put_decimal(out, from, size);
@@ -120,7 +120,7 @@ pub fn put_signed(out: &mut [u8], at: usize, x: i64) -> usize
     ensures next { result ≡ at + length (signed x) }
 {
     let from = put_byte(out, at, sign_byte(x));
-    put_decimal(out, from, magnitude(x))
+    put_decimal(out, from, x.unsigned_abs())
 }
 
 // ---- Reading

@@ -27,41 +27,6 @@ use Rattle.front.specs.declared.errors.ListError.TheVariants.{NotInstance, Large
 use Rattle.front.proofs.FrontLaws.{front-only}
 use Rattle.front.proofs.ListingLaws.{candidate}
 
--- ---- the code's cases
-
--- the room lies within the runs
-pub room_fits : (vs : List ℤ) (ms : List ℕ) {r : ℕ} → r ≡ room vs ms → (r ≤ max_points) × (r * 4 ≤ length vs) × (r ≤ length ms)
-room_fits vs ms e = (omega arith, omega (arith, div-mul-le_self (length vs) 4), omega arith)
-
-module _ {ts rs vs : List ℤ} {ms : List ℕ} {vs' : List ℤ} {ms' : List ℕ} {r : ℕ} {count : Option ℕ} (is : IsInstance ts rs) (re : r ≡ room vs ms) (l : Lists ts rs r vs ms vs' ms' count) where
-  pub listed-all : {k : ℕ} → count ≡ Some k → ListedAs ts rs vs ms vs' ms' (Ok k)
-  listed-all {k} e =
-      let w = l.whole k e in
-      let all : take r l.front ≡ l.front = take_all r l.front w.1 in
-      record {
-        numbered = refl;
-        is = is;
-        front = l.front;
-        is_front = l.is_front;
-        fits = omega (arith, w.1);
-        count = w.0;
-        values = l.values ∙ ap (λ (xs : List Candidate). values_left xs vs) all;
-        models = l.models ∙ ap (λ (xs : List Candidate). models_left xs ms) all;
-      }
-
-  pub listed-first : count ≡ None → ListedAs ts rs vs ms vs' ms' (Err (Larger r))
-  listed-first e =
-      record {
-        numbered = refl;
-        is = is;
-        front = l.front;
-        is_front = l.is_front;
-        larger = omega (arith, l.part e);
-        count = re;
-        values = l.values ∙ ap (λ (k : ℕ). values_left (take k l.front) vs) re;
-        models = l.models ∙ ap (λ (k : ℕ). models_left (take k l.front) ms) re;
-      }
-
 -- ---- the answers are determined
 
 module _ (ts rs vs : List ℤ) (ms : List ℕ) where

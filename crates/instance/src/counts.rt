@@ -24,6 +24,7 @@ pub fn objectives_of(rows: &[i64]) -> usize
 }
 
 // How many rows follow from entry `first` on.
+// Beside objectives_of: the two definitions count another kind each, and one function over the test would state the test's law at both calls.
 pub fn rows_of(rows: &[i64], first: usize) -> usize
     requires row_room_in_bounds { row_room ≤ length rows.now }
     requires first_le_max_entries { first ≤ max_entries }

@@ -1,37 +1,44 @@
 -- What terms give, or withhold, added up for the sides of their variables. Assumes nothing.
 use mathlib.Core.Path.{◌≡◌, refl, sym, ap, ap₂, ◌∙◌, subst}
 use mathlib.Core.Logic.{⊎_elim}
-use mathlib.Core.Bool.{Bool, false, cond}
+use mathlib.Core.Bool.{Bool, true, false, cond}
 use mathlib.Core.List.{List, [], ◌∷◌, ◌++◌}
-use Prim.Native.Nat.{ℕ, zero, suc, ◌+◌, ◌-◌, ◌*◌, ◌≤◌, ◌<◌}
+use Prim.Native.Nat.{ℕ, zero, suc, ◌+◌, ◌-◌, ◌≤◌, ◌<◌}
 use native.Mathlib.Omega.{arith}
 use native.Mathlib.Decide.{dec_lt}
-use lib.IntN.{ℤ}
+use lib.Dec.{eqb}
+use lib.IntN.{ℤ, nat_abs}
 use lib.ListN.{length, get_or, set, replicate, length-replicate, get_or-replicate, get_or-eq_default}
 use lib.Seq.{get_or-set_same, get_or-set_other}
 use borrow.Author.Tests.{eq-eqb, ne_eqb}
 use Rattle.charging.specs.Rows.{hit, span, bit}
 use Rattle.charging.proofs.BitLaws.{bit_word, bit-two}
 use Rattle.charging.proofs.SumLaws.{eq-or, hit-eq, hit-ne}
+use Rattle.instance.specs.Terms.{Term, TermOk}
 use Rattle.instance.specs.Tables.{term_at}
 use Rattle.instance.specs.Lists.{tabulate}
 use Rattle.normal.specs.declared.Half.{Half}
 use Rattle.normal.specs.Halves.{half_of, bit_of, gives, gives_all}
 use Rattle.normal.specs.Rows.{halves_at}
-use Rattle.normal.specs.Costs.{sides_of, Spread}
+use Rattle.normal.specs.declared.costs.Sides.{Sides as SidesOf}
+use Rattle.normal.specs.Costs.{no_sides, at_side, side_of, more_at, sides_of, Spread}
 use Rattle.normal.specs.Ceilings.{Bits}
 use Rattle.normal.proofs.LaidLaws.{halves-snoc}
-use Rattle.normal.proofs.TableLaws.{HalfOk}
+use Rattle.normal.proofs.TableLaws.{HalfOk, half-ok}
 
 -- ---- sides
 
--- a run that is all 0
-pub zeros : (m j : ℕ) → get_or {A = ℕ} (replicate m 0) j 0 ≡ 0
-zeros m j = by (dec_lt j m)
+-- sides that are all 0
+pub zeros : (m v b : ℕ) → side_of (replicate m no_sides) v b ≡ 0
+zeros m v b = subst (λ (s : SidesOf). at_side s b ≡ 0) (sym (by (dec_lt v m))) (none (eqb b 0))
   where
-    by : Dec (j < m) → get_or {A = ℕ} (replicate m 0) j 0 ≡ 0
-    by (yes l) = get_or-replicate m j 0 0 l
-    by (no l) = get_or-eq_default (replicate m 0) 0 {n = j} (omega (arith, length-replicate {A = ℕ} m 0))
+    none : (t : Bool) → cond t no_sides.zero no_sides.one ≡ 0
+    none true = refl
+    none false = refl
+
+    by : Dec (v < m) → get_or (replicate m no_sides) v no_sides ≡ no_sides
+    by (yes l) = get_or-replicate m v no_sides no_sides l
+    by (no l) = get_or-eq_default (replicate m no_sides) no_sides {n = v} (omega (arith, length-replicate m no_sides))
 
 -- ---- gives_all
 
@@ -69,43 +76,65 @@ span-one f g (suc n) u m e h d = by (dec_lt u n) (λ l. span-one f g n u m (λ k
         here : n ≡ u
         here = omega arith
 
-pub sides-none : (n : ℕ) (sides : List ℕ) (x : ℕ → ℕ) → ((j : ℕ) → get_or sides j 0 ≡ 0) → sides_of n sides x ≡ 0
+pub sides-none : (n : ℕ) (sides : List SidesOf) (x : ℕ → ℕ) → ((v b : ℕ) → side_of sides v b ≡ 0) → sides_of n sides x ≡ 0
 unfolding span
 sides-none zero sides x f = refl
-sides-none (suc n) sides x f = omega (arith, sides-none n sides x f, f ((0 + n) * 2 + x (0 + n)))
+sides-none (suc n) sides x f = omega (arith, sides-none n sides x f, f (0 + n) (x (0 + n)))
 
--- m is added at side o of variable v
-abbrev pub added : List ℕ → ℕ → ℕ → ℕ → List ℕ
-added sides v o m = set sides (v * 2 + o) (get_or sides (v * 2 + o) 0 + m)
+-- m more at side b, looked at from side c
+more-hit : (s : SidesOf) (b c m : ℕ) → b < 2 → c < 2 → at_side (more_at s b m) c ≡ at_side s c + hit c b m
+unfolding hit
+more-hit s zero zero m l h = refl
+more-hit s zero (suc zero) m l h = refl
+more-hit s (suc zero) zero m l h = refl
+more-hit s (suc zero) (suc zero) m l h = refl
+more-hit s (suc (suc b)) c m l h = absurd (omega arith)
+more-hit s zero (suc (suc c)) m l h = absurd (omega arith)
+more-hit s (suc zero) (suc (suc c)) m l h = absurd (omega arith)
 
-module _ (n : ℕ) (sides : List ℕ) (v o m : ℕ) (lv : v < n) (lo : o < 2) (room : n * 2 ≤ length sides) where
-  own : get_or (added sides v o m) (v * 2 + o) 0 ≡ get_or sides (v * 2 + o) 0 + m
-  own = get_or-set_same sides (v * 2 + o) (get_or sides (v * 2 + o) 0 + m) 0 (omega arith)
+more-up : (s : SidesOf) (b c m : ℕ) → at_side (more_at s b m) c ≤ at_side s c + m
+more-up s b c m = by (eqb b 0) (eqb c 0)
+  where
+    by : (t u : Bool) → cond u (s.zero + cond t m 0) (s.one + cond t 0 m) ≤ cond u s.zero s.one + m
+    by true true = omega arith
+    by true false = omega arith
+    by false true = omega arith
+    by false false = omega arith
 
-  other : (i : ℕ) → (i ≡ v * 2 + o → ⊥) → get_or (added sides v o m) i 0 ≡ get_or sides i 0
-  other i e = get_or-set_other sides (v * 2 + o) i (get_or sides (v * 2 + o) 0 + m) 0 e
+-- m is added at side b of variable v
+abbrev pub added : List SidesOf → ℕ → ℕ → ℕ → List SidesOf
+added sides v b m = set sides v (more_at (get_or sides v no_sides) b m)
+
+module _ (n : ℕ) (sides : List SidesOf) (v b m : ℕ) (lv : v < n) (lb : b < 2) (room : n ≤ length sides) where
+  own : get_or (added sides v b m) v no_sides ≡ more_at (get_or sides v no_sides) b m
+  own = get_or-set_same sides v (more_at (get_or sides v no_sides) b m) no_sides (omega arith)
+
+  other : (u : ℕ) → (u ≡ v → ⊥) → get_or (added sides v b m) u no_sides ≡ get_or sides u no_sides
+  other u e = get_or-set_other sides v u (more_at (get_or sides v no_sides) b m) no_sides e
 
   -- no side grows by more
-  pub sides-up : (i : ℕ) → get_or (added sides v o m) i 0 ≤ get_or sides i 0 + m
-  sides-up i = ⊎_elim (λ e. subst (λ (j : ℕ). get_or (added sides v o m) j 0 ≤ get_or sides j 0 + m) (sym e) (omega (arith, own))) (λ e. omega (arith, other i e)) (eq-or i (v * 2 + o))
+  pub sides-up : (u c : ℕ) → side_of (added sides v b m) u c ≤ side_of sides u c + m
+  sides-up u c = ⊎_elim
+      (λ e. subst (λ (k : ℕ). side_of (added sides v b m) k c ≤ side_of sides k c + m) (sym e)
+      (subst (λ (s : SidesOf). at_side s c ≤ side_of sides v c + m) (sym own) (more-up (get_or sides v no_sides) b c m)))
+      (λ e. omega (arith, ap (λ (s : SidesOf). at_side s c) (other u e)))
+      (eq-or u v)
 
   -- an assignment comes to m more where it has the variable at that side
-  pub sides-hit : (x : ℕ → ℕ) → Bits n x → sides_of n (added sides v o m) x ≡ sides_of n sides x + hit (x v) o m
-  sides-hit x b =
-      span-one (λ (u : ℕ). get_or sides (u * 2 + x u) 0) (λ (u : ℕ). get_or (added sides v o m) (u * 2 + x u) 0) n v (hit (x v) o m)
-      (λ u l e. other (u * 2 + x u) (λ z. e (omega (arith, b u l)))) lv (⊎_elim at apart (eq-or (x v) o))
-    where
-      at : x v ≡ o → get_or (added sides v o m) (v * 2 + x v) 0 ≡ get_or sides (v * 2 + x v) 0 + hit (x v) o m
-      at e = subst (λ (k : ℕ). get_or (added sides v o m) (v * 2 + k) 0 ≡ get_or sides (v * 2 + k) 0 + hit k o m) (sym e) (omega (arith, own, hit-eq o o m refl))
-
-      apart : (x v ≡ o → ⊥) → get_or (added sides v o m) (v * 2 + x v) 0 ≡ get_or sides (v * 2 + x v) 0 + hit (x v) o m
-      apart e = omega (arith, other (v * 2 + x v) (λ z. e (omega arith)), hit-ne (x v) o m e)
+  pub sides-hit : (x : ℕ → ℕ) → Bits n x → sides_of n (added sides v b m) x ≡ sides_of n sides x + hit (x v) b m
+  sides-hit x two =
+      span-one (λ (u : ℕ). side_of sides u (x u)) (λ (u : ℕ). side_of (added sides v b m) u (x u)) n v (hit (x v) b m) (λ u l e. ap (λ (s : SidesOf). at_side s (x u)) (other u e)) lv
+      (ap (λ (s : SidesOf). at_side s (x v)) own ∙ more-hit (get_or sides v no_sides) b (x v) m lb (two v lv))
 
 -- ---- Spread
 
-pub spread_none : (ts : List ℤ) (first n : ℕ) (sides : List ℕ) → ((j : ℕ) → get_or sides j 0 ≡ 0) → Spread ts first 0 n sides
+-- a term that was read is one that stands there
+pub half-fits : (n : ℕ) {h : Half} {t u : Term} → h ≡ half_of false t → t ≡ u → TermOk u → nat_abs u.lit ≤ n → HalfOk n h
+half-fits n {h} {t} {u} e f o l = subst (HalfOk n) (sym (e ∙ ap (half_of false) f)) (half-ok n false u o l)
+
+pub spread_none : (ts : List ℤ) (first n : ℕ) (sides : List SidesOf) → ((v b : ℕ) → side_of sides v b ≡ 0) → Spread ts first 0 n sides
 unfolding tabulate gives_all
-spread_none ts first n sides f = record { sums = λ a. sides-none n sides (bit a) f; small = λ i. omega (arith, f i) }
+spread_none ts first n sides f = record { sums = λ a. sides-none n sides (bit a) f; small = λ v b. omega (arith, f v b) }
 
 -- a term gives its weight at the side that its variable is not off
 gives-hit : (h : Half) (a : ℕ) → h.term.off < 2 → hit (bit a h.term.variable) (1 - h.term.off) h.term.weight ≡ gives h a
@@ -119,11 +148,11 @@ gives-hit h a l = ⊎_elim off on (eq-or (bit a h.term.variable) h.term.off)
     on e = hit-eq (bit a h.term.variable) (1 - h.term.off) h.term.weight (omega (arith, bit-two a h.term.variable))
         ∙ sym (ap (λ (b : Bool). cond b 0 h.term.weight) (ne_eqb (bit_of a h.term.variable) h.term.off (λ z. e (bit_word a h.term.variable ∙ z))))
 
-pub spread-more : (ts : List ℤ) (first k n : ℕ) {sides : List ℕ} → Spread ts first k n sides → (h : Half) → h ≡ half_of false (term_at ts (first + k)) → HalfOk n h → n * 2 ≤ length sides
+pub spread-more : (ts : List ℤ) (first k n : ℕ) {sides : List SidesOf} → Spread ts first k n sides → (h : Half) → h ≡ half_of false (term_at ts (first + k)) → HalfOk n h → n ≤ length sides
     → Spread ts first (k + 1) n (added sides h.term.variable (1 - h.term.off) h.term.weight)
 spread-more ts first k n {sides} s h e o room = record {
   sums = λ a. sides-hit n sides h.term.variable (1 - h.term.off) h.term.weight o.variable (omega arith) room (bit a) (λ v l. bit-two a v)
       ∙ ap₂ ◌+◌ (s.sums a) (gives-hit h a o.off ∙ ap (λ (x : Half). gives x a) e)
       ∙ sym (gives-snoc (halves_at ts first k false) (half_of false (term_at ts (first + k))) a) ∙ ap (λ (hs : List Half). gives_all hs a) (sym (halves-snoc ts first k false));
-  small = λ i. omega (arith, sides-up n sides h.term.variable (1 - h.term.off) h.term.weight o.variable (omega arith) room i, s.small i, o.weight);
+  small = λ v b. omega (arith, sides-up n sides h.term.variable (1 - h.term.off) h.term.weight o.variable (omega arith) room v b, s.small v b, o.weight);
 }

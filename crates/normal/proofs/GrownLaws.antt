@@ -6,9 +6,6 @@ use Prim.Native.Nat.{ℕ, ◌+◌, ◌≤◌}
 use native.Mathlib.Omega.{arith}
 use lib.IntN.{ℤ}
 use lib.ListN.{length, length-append}
-use mir.Syntax.{w64}
-use mir.Val.{SFits, to_z, of_z}
-use mir.Facts.{to_z-of_z}
 use Rattle.charging.specs.declared.rows.Term.{Term as HalfTerm}
 use Rattle.normal.specs.declared.Half.{Half}
 use Rattle.normal.specs.Rows.{HalfRow, all_halves, Laid}

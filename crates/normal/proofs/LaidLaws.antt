@@ -1,11 +1,11 @@
 -- Runs that go on with one term more. Assumes nothing.
-use mathlib.Core.Path.{◌≡◌, refl, sym, ap, ap₂, ◌∙◌, subst}
+use mathlib.Core.Path.{◌≡◌, refl, sym, ap, ap₂, ◌∙◌}
 use mathlib.Core.Bool.{Bool, true, false, cond}
 use mathlib.Core.List.{List, [], ◌∷◌, ◌++◌, map, append_assoc, append-nil}
 use Prim.Native.Nat.{ℕ, suc, ◌+◌, ◌≤◌, ◌<◌}
 use native.Mathlib.Omega.{arith}
 use lib.IntN.{ℤ, nat_abs}
-use lib.ListN.{length, take, set, length-set, length-append, length-map}
+use lib.ListN.{length, take, set, length-set, length-map}
 use lib.Seq.{take-suc-set}
 use Rattle.charging.specs.declared.rows.Term.{Term as HalfTerm}
 use Rattle.instance.specs.Limits.{max_coef}

@@ -1,5 +1,5 @@
 -- The runs that hold the half rows and the objectives are normal tables of the instance. Assumes nothing.
-use mathlib.Core.Path.{◌≡◌, sym, ap, ap₂, subst, ◌∙◌}
+use mathlib.Core.Path.{◌≡◌, sym, ap, ap₂, subst}
 use mathlib.Core.List.{List, map, Memᴰ}
 use Prim.Native.Nat.{ℕ, ◌+◌, ◌^◌, ◌≤◌, ◌<◌}
 use native.Mathlib.Omega.{arith}

@@ -13,12 +13,13 @@ use Rattle.instance.specs.Terms.{sum}
 use Rattle.instance.specs.Meaning.{terms_at}
 use Rattle.normal.specs.Halves.{lost_all}
 use Rattle.normal.specs.Rows.{halves_at}
+use Rattle.normal.specs.declared.costs.Sides.{Sides as SidesOf}
 use Rattle.normal.specs.Costs.{base_of, Spread, Settled}
 use Rattle.normal.proofs.HalfLaws.{halves-give}
 use Rattle.normal.proofs.SettleLaws.{cost-sides}
 
 -- the cost with what every assignment costs is the value with what was added
-pub objective-cost : (ts : List ℤ) (first count n : ℕ) {sides : List ℕ} {costs : List CostOf} → Spread ts first count n sides → Settled n sides costs
+pub objective-cost : (ts : List ℤ) (first count n : ℕ) {sides : List SidesOf} {costs : List CostOf} → Spread ts first count n sides → Settled n sides costs
     → (a : ℕ) → pos (cost costs (bit a) + base_of n sides) ≡ sum (terms_at ts first count) a +ℤ pos (lost_all (halves_at ts first count false))
 objective-cost ts first count n p s a = ap pos (cost-sides s a ∙ p.sums a) ∙ halves-give false (terms_at ts first count) a
 

@@ -18,12 +18,17 @@ use Rattle.instance.specs.Limits.{max_terms}
 use Rattle.instance.specs.Tables.{term_at, objectives_in, IsInstance}
 use Rattle.instance.specs.Meaning.{meaning}
 use Rattle.instance.specs.Structs.{EntryIs}
-use Rattle.instance.specs.Terms.{Term, sum}
+use Rattle.instance.specs.Terms.{Term, TermOk, sum}
 use Rattle.instance.specs.declared.entries.Entry.{Entry as EntryNumbers}
 use Rattle.instance.proofs.InstanceLaws.{entry-inside, entry-terms, variable-le}
-use Rattle.normal.specs.Halves.{lost_all}
+use Rattle.normal.specs.declared.Half.{Half}
+use Rattle.normal.specs.Halves.{half_of, lost_all}
 use Rattle.normal.specs.Rows.{halves_at}
+use Rattle.normal.specs.declared.costs.Sides.{Sides as SidesOf}
 use Rattle.normal.specs.Costs.{base_of, Spread, Settled, value_of, Priced}
+use Rattle.normal.proofs.LayLaws.{entry-inside-all, entry-terms-ok}
+use Rattle.normal.proofs.TableLaws.{HalfOk}
+use Rattle.normal.proofs.CostLaws.{half-fits}
 use Rattle.normal.proofs.SettleLaws.{settled-costs}
 use Rattle.normal.proofs.ObjectiveLaws.{objective-cost, cost-le, value-le}
 
@@ -31,16 +36,27 @@ use Rattle.normal.proofs.ObjectiveLaws.{objective-cost, cost-le, value-le}
 
 -- what an objective's entry asks of its terms
 module _ {ts rs : List ℤ} (is : IsInstance ts rs) (i : ℕ) (h : i < objectives_in rs) (e : EntryNumbers) (n : EntryIs rs i e) where
-  pub objective-names : (k : ℕ) → k < e.first + e.count → nat_abs (term_at ts k).lit ≤ (meaning ts rs).variables
+  objective-names : (k : ℕ) → k < e.first + e.count → nat_abs (term_at ts k).lit ≤ (meaning ts rs).variables
   objective-names k l = variable-le is k (omega (arith, n.first, n.count, entry-inside is i (omega arith)))
 
-module _ (ts rs : List ℤ) (i n : ℕ) (e : EntryNumbers) (m : EntryIs rs i e) (few : e.count ≤ max_terms) {sides : List ℕ} {costs : List CostOf} (p : Spread ts e.first e.count n sides) (s : Settled n sides costs) where
+  pub objective-inside : e.first + e.count ≤ max_terms
+  objective-inside = entry-inside-all is i (omega arith) e n
+
+  pub objective-term : (k : ℕ) → k < e.first + e.count → TermOk (term_at ts k)
+  objective-term = entry-terms-ok is i (omega arith) e n
+
+  -- a term of it that was read, as a half
+  pub objective-half : {m : ℕ} → m ≡ (meaning ts rs).variables → (k : ℕ) → k < e.first + e.count → {f : Half} {t : Term} → f ≡ half_of false t → t ≡ term_at ts k → HalfOk m f
+  objective-half {m} v k l p q = half-fits m p q (objective-term k l) (subst (λ (u : ℕ). nat_abs (term_at ts k).lit ≤ u) (sym v) (objective-names k l))
+
+module _ (ts rs : List ℤ) (i n : ℕ) (e : EntryNumbers) (m : EntryIs rs i e) (few : e.count ≤ max_terms)
+    {sides : List SidesOf} {costs : List CostOf} (p : Spread ts e.first e.count n sides) (s : Settled n sides costs) where
   value_as : (a : ℕ) → pos (cost costs (bit a) + base_of n sides) ≡ value_of ts rs i a +ℤ pos (lost_all (halves_at ts e.first e.count false))
   value_as a = objective-cost ts e.first e.count n p s a ∙ ap (λ (l : List Term). sum l a +ℤ pos (lost_all (halves_at ts e.first e.count false))) (entry-terms ts rs i m)
 
   pub priced-one : Priced ts rs n i costs
   priced-one = record {
-    are = settled-costs s (λ j. omega (arith, p.small j));
+    are = settled-costs s (λ v b. omega (arith, p.small v b));
     cost_le = λ a b l. cost-le (base_of n sides) (lost_all (halves_at ts e.first e.count false)) (cost costs (bit a)) (cost costs (bit b)) (value_as a) (value_as b) l;
     value_le = λ a b l. value-le (base_of n sides) (lost_all (halves_at ts e.first e.count false)) (cost costs (bit a)) (cost costs (bit b)) (value_as a) (value_as b) l;
   }

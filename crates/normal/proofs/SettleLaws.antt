@@ -2,7 +2,7 @@
 use mathlib.Core.Path.{◌≡◌, refl, sym, ap, ◌∙◌, subst}
 use mathlib.Core.Bool.{Bool, true, false, cond}
 use mathlib.Core.List.{List}
-use Prim.Native.Nat.{ℕ, zero, suc, ◌+◌, ◌-◌, ◌*◌, ◌^◌, ◌≤◌, ◌<◌, min}
+use Prim.Native.Nat.{ℕ, zero, suc, ◌+◌, ◌-◌, ◌^◌, ◌≤◌, ◌<◌, min}
 use native.Mathlib.Omega.{arith}
 use native.Mathlib.Decide.{dec_lt}
 use lib.Dec.{eqb, ltb}
@@ -11,7 +11,8 @@ use borrow.Author.Tests.{lt-ltb, le-ltb}
 use Rattle.charging.specs.declared.rows.Cost.{Cost as CostOf}
 use Rattle.charging.specs.Rows.{no_cost, pick, hit, span, cost, bit, Costs}
 use Rattle.charging.proofs.BitLaws.{bit-two}
-use Rattle.normal.specs.Costs.{sides_of, sides_sum, base_of, gap_of, dear_of, Settled}
+use Rattle.normal.specs.declared.costs.Sides.{Sides as SidesOf}
+use Rattle.normal.specs.Costs.{side_of, sides_of, sides_sum, base_of, gap_of, dear_of, Settled}
 
 -- ---- Costs
 
@@ -30,11 +31,11 @@ dear-two z w = by (ltb z w)
     by false = omega arith
 
 -- where no side is large, no cost is
-pub settled-costs : {n : ℕ} {sides : List ℕ} {costs : List CostOf} → Settled n sides costs → ((j : ℕ) → get_or sides j 0 ≤ 2 ^ 34) → Costs n costs
+pub settled-costs : {n : ℕ} {sides : List SidesOf} {costs : List CostOf} → Settled n sides costs → ((v b : ℕ) → side_of sides v b ≤ 2 ^ 34) → Costs n costs
 settled-costs {n} {sides} s f = record {
   long = s.long;
-  small = λ v l. subst (λ (c : CostOf). c.gap ≤ 2 ^ 34) (sym (s.each v l)) (gap-le (get_or sides (v * 2) 0) (get_or sides (v * 2 + 1) 0) (2 ^ 34) (f (v * 2)) (f (v * 2 + 1)));
-  two = λ v l. subst (λ (c : CostOf). c.dear < 2) (sym (s.each v l)) (dear-two (get_or sides (v * 2) 0) (get_or sides (v * 2 + 1) 0));
+  small = λ v l. subst (λ (c : CostOf). c.gap ≤ 2 ^ 34) (sym (s.each v l)) (gap-le (side_of sides v 0) (side_of sides v 1) (2 ^ 34) (f v 0) (f v 1));
+  two = λ v l. subst (λ (c : CostOf). c.dear < 2) (sym (s.each v l)) (dear-two (side_of sides v 0) (side_of sides v 1));
 }
 
 -- ---- cost
@@ -64,15 +65,6 @@ hit-side : (z w b : ℕ) → b < 2 → hit b (dear_of z w) (gap_of z w) + min z 
 unfolding hit
 hit-side z w b h = side z w b h
 
--- the number of a variable's side
-side-at : (sides : List ℕ) (v b : ℕ) → b < 2 → cond (eqb b 0) (get_or sides (v * 2) 0) (get_or sides (v * 2 + 1) 0) ≡ get_or sides (v * 2 + b) 0
-side-at sides v zero h = ap (λ (k : ℕ). get_or sides k 0) none
-  where
-    none : v * 2 ≡ v * 2 + 0
-    none = omega arith
-side-at sides v (suc zero) h = refl
-side-at sides v (suc (suc b)) h = absurd (omega arith)
-
 -- two sums side by side
 span-two : (f g e : ℕ → ℕ) (n : ℕ) → ((v : ℕ) → v < n → f v + g v ≡ e v) → span f 0 n + span g 0 n ≡ span e 0 n
 unfolding span
@@ -83,16 +75,16 @@ span-two f g e (suc n) h = omega (arith, span-two f g e n (λ v l. h v (omega ar
     last = omega arith
 
 -- the cost on the dear sides, with what every assignment costs, is what the sides come to
-pub cost-sides-of : {n : ℕ} {sides : List ℕ} {costs : List CostOf} → Settled n sides costs → (x : ℕ → ℕ) → ((v : ℕ) → v < n → x v < 2) → cost costs x + base_of n sides ≡ sides_of n sides x
+pub cost-sides-of : {n : ℕ} {sides : List SidesOf} {costs : List CostOf} → Settled n sides costs → (x : ℕ → ℕ) → ((v : ℕ) → v < n → x v < 2) → cost costs x + base_of n sides ≡ sides_of n sides x
 cost-sides-of {n} {sides} {costs} s x two =
     ap (λ (m : ℕ). span (λ (v : ℕ). hit (x v) (get_or costs v no_cost).dear (get_or costs v no_cost).gap) 0 m + base_of n sides) s.long
-    ∙ span-two (λ (v : ℕ). hit (x v) (get_or costs v no_cost).dear (get_or costs v no_cost).gap) (λ (v : ℕ). min (get_or sides (v * 2) 0) (get_or sides (v * 2 + 1) 0))
-      (λ (v : ℕ). get_or sides (v * 2 + x v) 0) n (λ v l. each v l)
+    ∙ span-two (λ (v : ℕ). hit (x v) (get_or costs v no_cost).dear (get_or costs v no_cost).gap) (λ (v : ℕ). min (side_of sides v 0) (side_of sides v 1))
+    (λ (v : ℕ). side_of sides v (x v)) n (λ v l. each v l)
   where
-    each : (v : ℕ) → v < n → hit (x v) (get_or costs v no_cost).dear (get_or costs v no_cost).gap + min (get_or sides (v * 2) 0) (get_or sides (v * 2 + 1) 0) ≡ get_or sides (v * 2 + x v) 0
+    each : (v : ℕ) → v < n → hit (x v) (get_or costs v no_cost).dear (get_or costs v no_cost).gap + min (side_of sides v 0) (side_of sides v 1) ≡ side_of sides v (x v)
     each v l =
-        ap (λ (c : CostOf). hit (x v) c.dear c.gap + min (get_or sides (v * 2) 0) (get_or sides (v * 2 + 1) 0)) (s.each v l)
-        ∙ hit-side (get_or sides (v * 2) 0) (get_or sides (v * 2 + 1) 0) (x v) (two v l) ∙ side-at sides v (x v) (two v l)
+        ap (λ (c : CostOf). hit (x v) c.dear c.gap + min (side_of sides v 0) (side_of sides v 1)) (s.each v l)
+        ∙ hit-side (side_of sides v 0) (side_of sides v 1) (x v) (two v l)
 
-pub cost-sides : {n : ℕ} {sides : List ℕ} {costs : List CostOf} → Settled n sides costs → (a : ℕ) → cost costs (bit a) + base_of n sides ≡ sides_sum n sides a
+pub cost-sides : {n : ℕ} {sides : List SidesOf} {costs : List CostOf} → Settled n sides costs → (a : ℕ) → cost costs (bit a) + base_of n sides ≡ sides_sum n sides a
 cost-sides s a = cost-sides-of s (bit a) (λ v l. bit-two a v)

@@ -6,10 +6,9 @@ use mathlib.Core.List.Memᴰ
 use mathlib.Core.List.{List, [], ◌∷◌, map, Memᴰ}
 use Prim.Native.Nat.{ℕ, zero, suc, ◌+◌, ◌^◌, ◌≤◌, ◌<◌}
 use native.Mathlib.Omega.{arith}
-use native.Mathlib.Decide.{dec_lt}
 use lib.Dec.{eqb}
 use lib.IntN.{ℤ, pos, negsuc, nat_abs}
-use lib.ListN.{length, get_or, length-map, length-append, get_or-map, get_or-eq_default}
+use lib.ListN.{length, get_or, length-map, length-append, get_or-map}
 use Rattle.charging.specs.declared.rows.Term.{Term as HalfTerm}
 use Rattle.charging.specs.Rows.{no_term, weight, Terms, Table}
 use Rattle.instance.specs.Limits.{max_coef, max_variable}

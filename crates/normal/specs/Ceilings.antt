@@ -6,7 +6,8 @@ use Rattle.charging.specs.declared.rows.Rows.{Rows}
 use Rattle.charging.specs.Rows.{hit, span, variable, side, weight, cost, Costs, costs_of}
 use Rattle.charging.specs.Meets.{terms_of, Meets}
 use Rattle.instance.specs.Limits.{max_coef, max_terms}
-use Rattle.normal.specs.Costs.{sides_of}
+use Rattle.normal.specs.declared.costs.Sides.{Sides}
+use Rattle.normal.specs.Costs.{side_of, sides_of}
 
 -- x is a complete assignment of n variables.
 abbrev pub Bits : ℕ → (ℕ → ℕ) → Type 0
@@ -26,22 +27,22 @@ abbrev pub weights_in : List Term → ℕ → ℕ
 weights_in terms k = span (weight terms) 0 k
 
 -- What the first k terms withhold is added to the sides.
-pub record Piled (n : ℕ) (terms : List Term) (k : ℕ) (sides₀ sides : List ℕ) : Type 0 where
+pub record Piled (n : ℕ) (terms : List Term) (k : ℕ) (sides₀ sides : List Sides) : Type 0 where
   pub same : length sides ≡ length sides₀
   pub sums : (x : ℕ → ℕ) → Bits n x → sides_of n sides x ≡ sides_of n sides₀ x + withheld terms x k
-  pub small : (i : ℕ) → get_or sides i 0 ≤ get_or sides₀ i 0 + k * max_coef
+  pub small : (v b : ℕ) → side_of sides v b ≤ side_of sides₀ v b + k * max_coef
 
 -- What half row h withholds is added to the sides; where the rows are met that is r at most.
-pub record Heaps (rows : Rows) (h : ℕ) (sides₀ sides : List ℕ) (r : ℕ) : Type 0 where
+pub record Heaps (rows : Rows) (h : ℕ) (sides₀ sides : List Sides) (r : ℕ) : Type 0 where
   pub same : length sides ≡ length sides₀
   pub bound : (x : ℕ → ℕ) → Bits rows.n x → Meets rows x → sides_of rows.n sides x ≤ sides_of rows.n sides₀ x + r
-  pub small : (i : ℕ) → get_or sides i 0 ≤ get_or sides₀ i 0 + length (terms_of rows h) * max_coef
+  pub small : (v b : ℕ) → side_of sides v b ≤ side_of sides₀ v b + length (terms_of rows h) * max_coef
   pub low : r ≤ length (terms_of rows h) * max_coef
 
 -- What meets the rows has at most `slack` of the sides, to which `most` terms were added at most.
-pub record Heap (rows : Rows) (sides : List ℕ) (slack most : ℕ) : Type 0 where
+pub record Heap (rows : Rows) (sides : List Sides) (slack most : ℕ) : Type 0 where
   pub bound : (x : ℕ → ℕ) → Bits rows.n x → Meets rows x → sides_of rows.n sides x ≤ slack
-  pub small : (i : ℕ) → get_or sides i 0 ≤ most * max_coef
+  pub small : (v b : ℕ) → side_of sides v b ≤ most * max_coef
   pub low : slack ≤ most * max_coef
 
 -- What meets the rows costs at most the cap.

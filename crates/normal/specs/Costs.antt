@@ -1,28 +1,44 @@
 -- Objectives in natural numbers: what each variable costs on each side, and then on its dear side alone.
-use Rattle.std.specs.Prelude.{◌≡◌, false, cond, List, ℕ, ◌+◌, ◌-◌, ◌*◌, ◌≤◌, ◌<◌, min, ltb, ℤ, length, get_or, ◌≤ℤ◌}
+use Rattle.std.specs.Prelude.{◌≡◌, false, cond, List, ℕ, ◌+◌, ◌-◌, ◌*◌, ◌≤◌, ◌<◌, min, eqb, ltb, ℤ, length, get_or, ◌≤ℤ◌}
 use Rattle.charging.specs.declared.rows.Cost.{Cost}
 use Rattle.charging.specs.Rows.{no_cost, span, bit, cost, Costs, costs_of}
 use Rattle.instance.specs.Limits.{max_coef}
 use Rattle.instance.specs.Terms.{sum}
 use Rattle.instance.specs.Meaning.{entry_at}
+use Rattle.normal.specs.declared.costs.Sides.{Sides}
 use Rattle.normal.specs.Halves.{gives_all}
 use Rattle.normal.specs.Rows.{halves_at}
 
--- What the sides of the n variables come to under an assignment: two numbers a variable, for 0 and for 1.
-abbrev pub sides_of : ℕ → List ℕ → (ℕ → ℕ) → ℕ
-sides_of n sides x = span (λ (v : ℕ). get_or sides (v * 2 + x v) 0) 0 n
+-- What stands past the end of a list of sides.
+abbrev pub no_sides : Sides
+no_sides = record { zero = 0; one = 0 }
 
-abbrev pub sides_sum : ℕ → List ℕ → ℕ → ℕ
+-- One side: where the variable is 0, or else where it is 1.
+abbrev pub at_side : Sides → ℕ → ℕ
+at_side s b = cond (eqb b 0) s.zero s.one
+
+abbrev pub side_of : List Sides → ℕ → ℕ → ℕ
+side_of sides v b = at_side (get_or sides v no_sides) b
+
+-- m more at one side.
+abbrev pub more_at : Sides → ℕ → ℕ → Sides
+more_at s b m = record { zero = s.zero + cond (eqb b 0) m 0; one = s.one + cond (eqb b 0) 0 m }
+
+-- What the sides of the n variables come to under an assignment.
+abbrev pub sides_of : ℕ → List Sides → (ℕ → ℕ) → ℕ
+sides_of n sides x = span (λ (v : ℕ). side_of sides v (x v)) 0 n
+
+abbrev pub sides_sum : ℕ → List Sides → ℕ → ℕ
 sides_sum n sides a = sides_of n sides (bit a)
 
 -- What every assignment comes to at least.
-abbrev pub base_of : ℕ → List ℕ → ℕ
-base_of n sides = span (λ (v : ℕ). min (get_or sides (v * 2) 0) (get_or sides (v * 2 + 1) 0)) 0 n
+abbrev pub base_of : ℕ → List Sides → ℕ
+base_of n sides = span (λ (v : ℕ). min (side_of sides v 0) (side_of sides v 1)) 0 n
 
 -- The sides hold the terms: under each assignment they come to what the terms give; none is large.
-pub record Spread (ts : List ℤ) (first k n : ℕ) (sides : List ℕ) : Type 0 where
+pub record Spread (ts : List ℤ) (first k n : ℕ) (sides : List Sides) : Type 0 where
   pub sums : (a : ℕ) → sides_sum n sides a ≡ gives_all (halves_at ts first k false) a
-  pub small : (i : ℕ) → get_or sides i 0 ≤ k * max_coef
+  pub small : (v b : ℕ) → side_of sides v b ≤ k * max_coef
 
 -- What a variable costs on its dear side more than on the other, and which side is dear: 1 if that costs more.
 abbrev pub gap_of : ℕ → ℕ → ℕ
@@ -32,13 +48,13 @@ abbrev pub dear_of : ℕ → ℕ → ℕ
 dear_of zero-side one_side = cond (ltb zero-side one_side) 1 0
 
 -- A variable's cost by what its sides cost.
-abbrev pub cost_of : ℕ → ℕ → Cost
-cost_of zero-side one_side = record { gap = gap_of zero-side one_side; dear = dear_of zero-side one_side }
+abbrev pub cost_of : Sides → Cost
+cost_of s = record { gap = gap_of s.zero s.one; dear = dear_of s.zero s.one }
 
 -- The n variables have the costs of the run of sides.
-pub record Settled (n : ℕ) (sides : List ℕ) (costs : List Cost) : Type 0 where
+pub record Settled (n : ℕ) (sides : List Sides) (costs : List Cost) : Type 0 where
   pub long : length costs ≡ n
-  pub each : (v : ℕ) → v < n → get_or costs v no_cost ≡ cost_of (get_or sides (v * 2) 0) (get_or sides (v * 2 + 1) 0)
+  pub each : (v : ℕ) → v < n → get_or costs v no_cost ≡ cost_of (get_or sides v no_sides)
 
 -- The value of objective i, counted from 0.
 abbrev pub value_of : List ℤ → List ℤ → ℕ → ℕ → ℤ

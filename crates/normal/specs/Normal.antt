@@ -1,9 +1,9 @@
 -- The normal tables of an instance: what the search counts by, and what it has to do with the instance's meaning.
-use Rattle.std.specs.Prelude.{◌≡◌, true, ℕ, ◌<◌, ℤ}
+use Rattle.std.specs.Prelude.{◌≡◌, true, ℕ, ℤ}
 use mathlib.Core.List.{List, Memᴰ}
 use Rattle.charging.specs.declared.rows.Cost.{Cost}
 use Rattle.charging.specs.declared.rows.Rows.{Rows}
-use Rattle.charging.specs.Rows.{bit, costs_of}
+use Rattle.charging.specs.Rows.{bit}
 use Rattle.charging.specs.Meets.{Meets}
 use Rattle.instance.specs.Rows.{Entry, holds}
 use Rattle.instance.specs.Tables.{objectives_in, IsInstance}

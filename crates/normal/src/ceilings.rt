@@ -2,11 +2,12 @@
 // they give nothing; so, where it is met, what is withheld is at most its weight less its need. That is a cost with a cap, and charging it
 // decides, say, rows that each ask for a site against a row that allows few. The sum of half rows is a half row too: what they withhold
 // together is at most the sum of what each may.
-ghost use Rattle.std.specs.Prelude.{◌≡◌, ℕ, ◌*◌, ◌^◌, ◌≤◌, ◌<◌, length, get_or, take};
+ghost use Rattle.std.specs.Prelude.{◌≡◌, ℕ, ◌*◌, ◌^◌, ◌≤◌, ◌<◌, length, take};
 ghost use Rattle.charging.specs.Meets.{count, Ceiled};
+ghost use Rattle.normal.specs.Costs.{side_of};
 ghost use Rattle.normal.specs.Ceilings.{Narrow, Heaps, Ceiling, CeilingIf, CeilingAll};
 
-use crate::costs::MAX_SIDES;
+use crate::costs::{MAX_SIDES, Sides};
 use crate::heaps::{heap_row, lay_heap, weight_of};
 use charging::{Cost, Rows};
 
@@ -15,6 +16,7 @@ pub const MAX_CEILINGS: usize = 4;
 
 // How many terms a half row must have to be a ceiling, and to be one of the sum.
 const MIN_TERMS: usize = 8;
+
 const SUM_TERMS: usize = 3;
 
 // Whether half row h is tight: it has so many terms at least, and must reach more than half of what it weighs.
@@ -34,7 +36,7 @@ fn lay_ceiling(rows: &Rows<'_>, h: usize, costs: &mut [Cost]) -> u64
     requires h_in_bounds { (h < count rows.now) × (length costs.old ≡ rows.now.n) }
     ensures { Ceiling rows.now costs.new result }
 {
-    let mut sides = [0u64; MAX_SIDES];
+    let mut sides = [Sides::NONE; MAX_SIDES];
     let slack = heap_row(rows, h, &mut sides);
     lay_heap(&sides, slack, costs)
 }
@@ -58,9 +60,9 @@ fn lay_if(rows: &Rows<'_>, h: usize, laid: usize, costs: &mut [Cost], caps: &mut
 }
 
 // Adds what half row h withholds to the sides, if it is tight; answers how much that is at most, 0 where it is not tight.
-fn heap_if(rows: &Rows<'_>, h: usize, sides: &mut [u64]) -> u64
+fn heap_if(rows: &Rows<'_>, h: usize, sides: &mut [Sides]) -> u64
     requires narrow { Narrow rows.now }
-    requires h_in_bounds { (h < count rows.now) × (rows.now.n * 2 ≤ length sides.old) × ((i : ℕ) → get_or sides.old i 0 ≤ 2 ^ 40) }
+    requires h_in_bounds { (h < count rows.now) × (rows.now.n ≤ length sides.old) × ((v b : ℕ) → side_of sides.old v b ≤ 2 ^ 40) }
     ensures { Heaps rows.now h sides.old sides.new result }
 {
     if !is_tight(rows, h, SUM_TERMS) {
@@ -76,7 +78,7 @@ fn lay_sum(rows: &Rows<'_>, costs: &mut [Cost]) -> Option<u64>
     requires n_value { length costs.old ≡ rows.now.n }
     ensures { CeilingIf rows.now costs.new result }
 {
-    let mut sides = [0u64; MAX_SIDES];
+    let mut sides = [Sides::NONE; MAX_SIDES];
     let mut slack: u64 = 0;
     let mut summed: usize = 0;
     for h in 0..rows.needs.len() {

@@ -6,13 +6,12 @@ ghost use Rattle.points.specs.Lists.{Fine, ValuesFine, BitsBelow, RowsRise, Rows
 use crate::point::Point;
 use crate::vectors::le_all;
 use instance::bits::within;
-use integers::magnitude;
 
 // Whether a value is in range, and 0 where it is at a place that no objective has.
 fn value_fine(objectives: u64, i: usize, value: i64) -> bool
     ensures { Decides result (Fine objectives i value) }
 {
-    let size = magnitude(value);
+    let size = value.unsigned_abs();
     if Point::MAX_VALUE < size {
         return false;
     }

@@ -103,6 +103,7 @@ pub fn read_terms<'a>(text: &'a [u8], terms: &mut [i32], base: usize) -> Result<
         top: 0,
         rest: text,
     };
+    // Kept as a loop: how much of the text a term takes is known once it is read.
     loop {
         let Some(t) = read_term(run.rest)? else {
             return Ok(run);

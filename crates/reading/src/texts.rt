@@ -34,6 +34,7 @@ fn read_statements(text: &[u8], terms: &mut [i32], rows: &mut [i64]) -> Result<u
         terms: 0,
         top: 0,
     };
+    // Kept as a loop: how much of the text a statement takes is known once it is read.
     loop {
         let Ok(next) = read_statement(rest, place, terms, taken.terms) else {
             return Err(ReadError::Grammar(number));

@@ -12,13 +12,13 @@ use Rattle.decimal.proofs.put_integer.Goals.{Else-x-lt0, Then-x-lt0}
 use Rattle.decimal.proofs.put_integer.Goals as goal
 
 -- what is to be written, below 0 and else
-neg-text : (t : Then-x-lt0) → 45 ∷ decimal t.magnitude-size.result ≡ integer t.args.x
+neg-text : (t : Then-x-lt0) → 45 ∷ decimal t.unsigned_abs-size.result ≡ integer t.args.x
 neg-text t =
-    integer-neg t.args.x t.ranges.x t.magnitude-size.result t.magnitude-size.ensures t.if-x-lt0.true
+    integer-neg t.args.x t.ranges.x t.unsigned_abs-size.result t.unsigned_abs-size.ensures.value t.if-x-lt0.true
 
-pos-text : (t : Else-x-lt0) → decimal t.magnitude-size.result ≡ integer t.args.x
+pos-text : (t : Else-x-lt0) → decimal t.unsigned_abs-size.result ≡ integer t.args.x
 pos-text t =
-    integer-pos t.args.x t.ranges.x t.magnitude-size.result t.magnitude-size.ensures t.if-x-lt0.false
+    integer-pos t.args.x t.ranges.x t.unsigned_abs-size.result t.unsigned_abs-size.ensures.value t.if-x-lt0.false
 
 pub put_byte-from-requires : goal.put_byte-from-requires
 put_byte-from-requires c = omega (arith, ap length (neg-text (goal.at.put_byte-from-requires c).Then-x-lt0))
@@ -29,8 +29,8 @@ put_decimal-requires c =
 
 pub returns-then-x-lt0 : goal.returns-then-x-lt0
 returns-then-x-lt0 c =
-    let size : length (45 ∷ decimal c.magnitude-size.result) ≡ length (integer c.args.x) = ap length (neg-text (goal.at.returns-then-x-lt0 c).Then-x-lt0) in record {
-      left = overwrite-then c.args.out.now c.args.at (45 ∷ []) (decimal c.magnitude-size.result) (omega arith) c.put_byte-from.ensures.left c.put_byte-from.ensures.next c.put_decimal.ensures.left
+    let size : length (45 ∷ decimal c.unsigned_abs-size.result) ≡ length (integer c.args.x) = ap length (neg-text (goal.at.returns-then-x-lt0 c).Then-x-lt0) in record {
+      left = overwrite-then c.args.out.now c.args.at (45 ∷ []) (decimal c.unsigned_abs-size.result) (omega arith) c.put_byte-from.ensures.left c.put_byte-from.ensures.next c.put_decimal.ensures.left
           ∙ ap (overwrite c.args.out.now c.args.at) (neg-text (goal.at.returns-then-x-lt0 c).Then-x-lt0);
       next = omega (arith, c.put_byte-from.ensures.next, c.put_decimal.ensures.next);
     }

@@ -8,8 +8,8 @@ use Rattle.decimal.proofs.signed_len.Goals as goal
 
 pub overflow_add-result : goal.overflow_add-result
 overflow_add-result c =
-    omega (arith, decimal-length 20 c.magnitude.result (omega arith) (omega arith))
+    omega (arith, decimal-length 20 c.unsigned_abs.result (omega arith) (omega arith))
 
 pub returns : goal.returns
 returns c =
-    omega (arith, ap length (signed-as c.args.x c.ranges.x c.magnitude.result c.magnitude.ensures _ refl))
+    omega (arith, ap length (signed-as c.args.x c.ranges.x c.unsigned_abs.result c.unsigned_abs.ensures.value _ refl))

@@ -5,7 +5,7 @@ use Rattle.normal.proofs.CeilingLaws.{heap-none, heap-more, ceiling-one}
 use Rattle.normal.proofs.ceilings.lay_sum.Goals as goal
 
 pub loop-h-init : goal.loop-h-init
-loop-h-init c = (omega arith, omega arith, omega arith, heap-none c.args.rows.now _ _ (zeros 128))
+loop-h-init c = (omega arith, omega arith, omega arith, heap-none c.args.rows.now _ _ (zeros 64))
 
 pub loop-h-preserved : goal.loop-h-preserved
 loop-h-preserved c =
