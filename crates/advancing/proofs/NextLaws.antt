@@ -64,7 +64,9 @@ module _ (k : ℕ) (listed points₀ : List Trade) (c₀ : ℕ) where
         kept = λ h fr y. s.kept h fr (λ v z.
             ⊎_elim (λ e. subst (λ (q : ℕ). Within k (row points q) h → ⊥) (sym e) (λ b. stale (fresh-down k listed (length listed) (row points j) h b fr)))
             (λ e. ⊎_elim (λ q. free-old k (get_or points c no_trade) points j jp v e h (y v q))
-            (λ q. let w : v ≡ c = omega (arith, z, q) in subst (λ (r : ℕ). Within k (row points r) h → ⊥) (sym w) (free_new k (get_or points c no_trade) points j jp h (y j (omega (arith, e, w)))))
+            (λ q.
+            let w : v ≡ c = omega (arith, z, q) in
+            subst (λ (r : ℕ). Within k (row points r) h → ⊥) (sym w) (free_new k (get_or points c no_trade) points j jp h (y j (omega (arith, e, w)))))
             (lt-or v c)) (eq-or v j));
       }
 

@@ -95,7 +95,9 @@ module _ (n : ℕ) (W : (ℕ → ℕ) → Type 0) where
           above = put-above a (e ∙ sym z) (λ u l m. refl);
           wanted = o.wanted;
           fits = o.fits;
-          least = λ x l y. ⊎_elim (λ h. let k = on x y h in omega (arith, number_step a v, number_step x v)) (λ h. omega (arith, o.least x l y, number_step a v, number_step x v)) (eq-or (a / 2 ^ (v + 1)) (x / 2 ^ (v + 1)));
+          least = λ x l y.
+              ⊎_elim (λ h. let k = on x y h in omega (arith, number_step a v, number_step x v)) (λ h. omega (arith, o.least x l y, number_step a v, number_step x v))
+              (eq-or (a / 2 ^ (v + 1)) (x / 2 ^ (v + 1)));
         }
       where
         completes : (x : ℕ) → a / 2 ^ (v + 1) ≡ x / 2 ^ (v + 1) → bit x v ≡ 0 → Completes n (of r) (bit x)
