@@ -163,13 +163,6 @@ module _ (problem : Problem) where
           let past = r.stocked.all x u (λ q i b. h.least q i (lex-mono problem.count 0 problem.count (row points q) v (row points h.place) (omega arith) b z)) in
           past.behind (lex-through problem.count 0 v (row points h.place) (at past.top) z (r.stocked.held.limited past.top past.is h.place h.inside))
 
-      -- the assignment of the chosen trade is wanted, where its vector is the cap
-      pub next-wanted : AtMost problem trade.costs (bit trade.model)
-      next-wanted = record { meets = known.meets; below = λ i z. omega (arith, known.value i z) }
-
-      pub next-fits : trade.model < 2 ^ problem.rows.n
-      next-fits = known.fits
-
       pub next-some : (a : ℕ) → Smallest problem.rows.n (AtMost problem trade.costs) a → IsNext problem listed (record { costs = trade.costs; model = a })
       next-some a s =
           record {
