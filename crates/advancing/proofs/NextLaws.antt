@@ -64,7 +64,9 @@ module _ (k : ℕ) (listed points₀ : List Trade) (c₀ : ℕ) where
         kept = λ h fr y. s.kept h fr (λ v z.
             ⊎_elim (λ e. subst (λ (q : ℕ). Within k (row points q) h → ⊥) (sym e) (λ b. stale (fresh-down k listed (length listed) (row points j) h b fr)))
             (λ e. ⊎_elim (λ q. free-old k (get_or points c no_trade) points j jp v e h (y v q))
-            (λ q. let w : v ≡ c = omega (arith, z, q) in subst (λ (r : ℕ). Within k (row points r) h → ⊥) (sym w) (free_new k (get_or points c no_trade) points j jp h (y j (omega (arith, e, w)))))
+            (λ q.
+            let w : v ≡ c = omega (arith, z, q) in
+            subst (λ (r : ℕ). Within k (row points r) h → ⊥) (sym w) (free_new k (get_or points c no_trade) points j jp h (y j (omega (arith, e, w)))))
             (lt-or v c)) (eq-or v j));
       }
 
@@ -160,13 +162,6 @@ module _ (problem : Problem) where
           let z : less problem.count 0 v (row points h.place) = subst (λ (t : Trade). less problem.count 0 v (at t.costs)) h.here y in
           let past = r.stocked.all x u (λ q i b. h.least q i (lex-mono problem.count 0 problem.count (row points q) v (row points h.place) (omega arith) b z)) in
           past.behind (lex-through problem.count 0 v (row points h.place) (at past.top) z (r.stocked.held.limited past.top past.is h.place h.inside))
-
-      -- the assignment of the chosen trade is wanted, where its vector is the cap
-      pub next-wanted : AtMost problem trade.costs (bit trade.model)
-      next-wanted = record { meets = known.meets; below = λ i z. omega (arith, known.value i z) }
-
-      pub next-fits : trade.model < 2 ^ problem.rows.n
-      next-fits = known.fits
 
       pub next-some : (a : ℕ) → Smallest problem.rows.n (AtMost problem trade.costs) a → IsNext problem listed (record { costs = trade.costs; model = a })
       next-some a s =

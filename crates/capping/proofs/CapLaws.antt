@@ -79,7 +79,8 @@ module _ (k : ℕ) (lb : List ℕ) where
 
 pub cost-le : (n : ℕ) (costs : List Cost) (x : ℕ → ℕ) → Costs n costs → n ≤ 64 → cost costs x ≤ 2 ^ 40
 cost-le n costs x c l =
-    let u = span-le (λ (v : ℕ). hit (x v) (dear costs v) (gap costs v)) (length costs) (2 ^ 34) (λ v z. omega (arith, hit-le (x v) (dear costs v) (gap costs v), c.small v (omega (arith, c.long)))) in
+    let u = span-le (λ (v : ℕ). hit (x v) (dear costs v) (gap costs v)) (length costs) (2 ^ 34)
+    (λ v z. omega (arith, hit-le (x v) (dear costs v) (gap costs v), c.small v (omega (arith, c.long)))) in
     omega (arith, c.long)
 
 module _ (problem : Problem) (p : Part) where

@@ -111,10 +111,6 @@ module _ (rows : Rows) where
             (λ k i e f. let a = p.each k i e in let b = min k i e f in omega arith) x c (mt h l);
       }
 
-  pub charge-more : (costs : List Cost) (val : ℕ → ℕ) (b : ℕ) (res res' : List ℕ) (r : ℕ)
-      → Charged rows costs val b res → Step rows costs val res res' r → Charged rows costs val (b + r) res'
-  charge-more costs val b res res' r c s = record { bound = λ x k m. let one = c.bound x k m in let two = s.falls x k m in omega arith }
-
 -- R5, at the start: what is sure, and what may still come
 opening : (n : ℕ) (val : ℕ → ℕ) (costs : List Cost) (res : List ℕ) → Costs n costs → Owed (length costs) val costs res
     → (x : ℕ → ℕ) → Completes n val x → cost costs val + rest res costs x ≤ cost costs x
@@ -134,23 +130,6 @@ opening n val costs res cs o x c = sum-add _ _ _ (length costs) one
 pub charge-none : (rows : Rows) (val : ℕ → ℕ) (costs : List Cost) (b : ℕ) (res : List ℕ)
     → Costs rows.n costs → Owed (length costs) val costs res → b ≡ cost costs val → Charged rows costs val b res
 charge-none rows val costs b res cs e z = record { bound = λ x k m. let one = opening rows.n val costs res cs e x k in omega arith }
-
-pub owed_none : (val : ℕ → ℕ) (costs : List Cost) (res : List ℕ) → Owed 0 val costs res
-owed_none val costs res = record { open' = λ v l. absurd (not-suc-le-zero l); shut = λ v l. absurd (not-suc-le-zero l) }
-
-pub owed_more : (j : ℕ) (val : ℕ → ℕ) (costs : List Cost) (res : List ℕ) (r : ℕ) → j < length res → Owed j val costs res
-    → (val j ≡ 2 → r ≡ gap costs j) → ((val j ≡ 2 → ⊥) → r ≡ 0) → Owed (j + 1) val costs (set res j r)
-owed_more j val costs res r l old f g =
-    record {
-      open' = below_more (λ (v : ℕ). val v ≡ 2 → get_or (set res j r) v 0 ≡ gap costs v) j (λ v i e. other v i ∙ old.open' v i e) (λ e. same ∙ f e);
-      shut = below_more (λ (v : ℕ). (val v ≡ 2 → ⊥) → get_or (set res j r) v 0 ≡ 0) j (λ v i e. other v i ∙ old.shut v i e) (λ e. same ∙ g e);
-    }
-  where
-    same : get_or (set res j r) j 0 ≡ r
-    same = get_or-set_same res j r 0 l
-
-    other : (v : ℕ) → v < j → get_or (set res j r) v 0 ≡ get_or res v 0
-    other v i = get_or-set_other res j v r 0 (λ e. omega arith)
 
 -- what is left at a variable on its dear side is part of the rest
 pub rest-one : (res : List ℕ) (costs : List Cost) (x : ℕ → ℕ) (v : ℕ) → v < length costs → x v ≡ dear costs v → get_or res v 0 ≤ rest res costs x

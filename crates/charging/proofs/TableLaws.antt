@@ -36,10 +36,6 @@ part_terms n terms a b l m t =
     at : (k : ℕ) → k < b - a → get_or (slice_range terms a b) k no_term ≡ get_or terms (a + k) no_term
     at k i = part_at terms a b k no_term i
 
--- fewer variables are some of more
-pub more_terms : (n m : ℕ) (terms : List Term) → n ≤ m → m ≤ 64 → Terms n terms → Terms m terms
-more_terms n m terms l few t = record { vars = λ k i. omega (arith, t.vars k i); sides = t.sides; small = t.small; few = few; short = t.short }
-
 pub row_terms : (rows : Rows) (h : ℕ) → h < count rows → Terms rows.n (terms_of rows h)
 row_terms rows h l = part_terms rows.n rows.terms.now _ _ (rows.table.rising h l) (rows.table.inside h l) rows.table.every
 

@@ -112,7 +112,8 @@ pub record Paid (n : ℕ) (terms : List Term) (costs : List Cost) (j m : ℕ) (r
 
 -- At most what is left to charge at each of the first j terms that can be charged.
 abbrev pub Least : List Term → List Cost → List ℕ → ℕ → ℕ → Type 0
-Least terms costs res j m = (k : ℕ) → k < j → (dear costs (variable terms k) ≡ side terms k → ⊥) → (get_or res (variable terms k) 0 ≡ 0 → ⊥) → m ≤ get_or res (variable terms k) 0
+Least terms costs res j m = (k : ℕ) → k < j → (dear costs (variable terms k) ≡ side terms k → ⊥)
+    → (get_or res (variable terms k) 0 ≡ 0 → ⊥) → m ≤ get_or res (variable terms k) 0
 
 -- An objective's costs, one for each of n variables.
 pub record Costs (n : ℕ) (costs : List Cost) : Type 0 where

@@ -9,28 +9,12 @@
 
 mod goals;
 
-ghost use Rattle.std.specs.Prelude.{◌-◌, ◌<◌, ◌≤◌};
 ghost use Rattle.charging.specs.Rows.{Costs};
-ghost use Rattle.narrowing.specs.Parts.{Good, Cuts, Maybe};
+ghost use Rattle.narrowing.specs.Parts.{Good, Cuts};
 ghost use Rattle.forcing.specs.Goals.{Under, Wanted};
 
 use charging::{Cost, Part, Rows};
 pub use goals::Goal;
-
-// Sets v, at which `left` is left to charge, to its cheap side where its dear side would cost more than `slack`.
-pub fn bar(n: usize, cost: Cost, v: usize, left: u64, slack: u64, p: Part) -> Part
-    requires { Good n p × (v < n) × (n ≤ 64) × (cost.dear < 2) }
-    ensures { Maybe n p v (1 - cost.dear) (slack < left) result }
-{
-    if left <= slack {
-        return p;
-    }
-    let y = p.look(v);
-    if y == 2 {
-        return narrowing::put(n, p, v, 1 - cost.dear);
-    }
-    p
-}
 
 // What the cap of one objective forces.
 pub fn force(rows: &Rows<'_>, costs: &[Cost], cap: u64, p: Part) -> Option<Part>
@@ -48,7 +32,7 @@ pub fn force(rows: &Rows<'_>, costs: &[Cost], cap: u64, p: Part) -> Option<Part>
     let slack = cap - bound;
     let mut q = p;
     for (v, cost) in costs.iter().enumerate() {
-        q = bar(rows.n, *cost, v, res[v], slack, q);
+        q = narrowing::push(rows.n, q, v, cost.dear, res[v], slack);
     }
     Some(q)
 }

@@ -26,17 +26,6 @@ wanted-down goal y x c u =
     }
 
 module _ (n : ℕ) (W : (ℕ → ℕ) → Type 0) where
-  pub lowered-start : (p : Part) (a : ℕ) → Good n p → ((v : ℕ) → of p v ≡ 2) → W (bit a) → a < 2 ^ n → Lowered n W n p a
-  lowered-start p a g u w f =
-      record {
-        good = g;
-        below = λ v l. u v;
-        above = λ v l m. absurd (omega arith);
-        wanted = w;
-        fits = f;
-        least = λ x l y. let e = div-eq_of_lt f in omega arith;
-      }
-
   pub lowered-end : (p : Part) (a : ℕ) → Lowered n W 0 p a → Smallest n W a
   lowered-end p a o =
       record { wanted = o.wanted; fits = o.fits; least = λ x l y. omega (arith, o.least x l y, div-one a, div-one x) }
@@ -95,7 +84,9 @@ module _ (n : ℕ) (W : (ℕ → ℕ) → Type 0) where
           above = put-above a (e ∙ sym z) (λ u l m. refl);
           wanted = o.wanted;
           fits = o.fits;
-          least = λ x l y. ⊎_elim (λ h. let k = on x y h in omega (arith, number_step a v, number_step x v)) (λ h. omega (arith, o.least x l y, number_step a v, number_step x v)) (eq-or (a / 2 ^ (v + 1)) (x / 2 ^ (v + 1)));
+          least = λ x l y.
+              ⊎_elim (λ h. let k = on x y h in omega (arith, number_step a v, number_step x v)) (λ h. omega (arith, o.least x l y, number_step a v, number_step x v))
+              (eq-or (a / 2 ^ (v + 1)) (x / 2 ^ (v + 1)));
         }
       where
         completes : (x : ℕ) → a / 2 ^ (v + 1) ≡ x / 2 ^ (v + 1) → bit x v ≡ 0 → Completes n (of r) (bit x)

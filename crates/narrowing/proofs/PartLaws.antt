@@ -1,5 +1,5 @@
 -- Setting a variable to b loses nothing that is wanted where no wanted completion has it at the other side; losing nothing is transitive.
-use mathlib.Core.Path.{◌≡◌, refl, ap, sym, ◌∙◌}
+use mathlib.Core.Path.{◌≡◌, ap, sym, ◌∙◌}
 use mathlib.Core.Logic.{⊎_elim}
 use Prim.Native.Nat.{ℕ, ◌+◌, ◌-◌, ◌≤◌, ◌<◌}
 use native.Mathlib.Omega.{arith}
@@ -18,9 +18,6 @@ pub two-of : (a b : ℕ) → a < 2 → b < 2 → (a ≡ 1 - b → ⊥) → a ≡
 two-of a b l m f = ⊎_elim (λ e. e) (λ e. absurd (f (omega (arith, e)))) (eq-or a b)
 
 module _ (n : ℕ) (W : (ℕ → ℕ) → Type 0) where
-  pub narrows-refl : (y : ℕ → ℕ) → Narrows n W y y
-  narrows-refl y = record { more = λ v l e. refl; keep = λ x c w. c }
-
   pub narrows-trans : (y y' y'' : ℕ → ℕ) → Narrows n W y y' → Narrows n W y' y'' → Narrows n W y y''
   narrows-trans y y' y'' a b =
       record {

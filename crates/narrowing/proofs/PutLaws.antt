@@ -89,7 +89,8 @@ shifted v l =
     let q : 1 ≤ 2 ^ v = pow_pos v in
     rw one-mul (mod-eq_of_lt (omega arith))
 
-pub set_room : (n : ℕ) (p : Part) (v : ℕ) → Good n p → of p v ≡ 2 → v < 64 → (p.set < 2 ^ 64 → p.set + 1 * 2 ^ v % 18446744073709551616 < 2 ^ 64) × (p.one < 2 ^ 64 → p.one + 1 * 2 ^ v % 18446744073709551616 < 2 ^ 64)
+pub set_room : (n : ℕ) (p : Part) (v : ℕ) → Good n p → of p v ≡ 2 → v < 64
+    → (p.set < 2 ^ 64 → p.set + 1 * 2 ^ v % 18446744073709551616 < 2 ^ 64) × (p.one < 2 ^ 64 → p.one + 1 * 2 ^ v % 18446744073709551616 < 2 ^ 64)
 set_room n p v g u l =
     let e = unset-bit p.set p.one v u in
     (λ h. rw (shifted v l) (set-fits 64 p.set v h l e), λ h. rw (shifted v l) (set-fits 64 p.one v h l (g.sub v e)))

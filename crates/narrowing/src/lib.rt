@@ -1,6 +1,7 @@
 // Narrowing (R1 and R2): what the rows force in a partial assignment.
 //
 // blank(n), put(n, p, v, b)   the part that sets nothing; p with v at b
+// push(n, p, v, ..)           p with v at the side that is left to it, if the other takes too much
 // pass(rows, p)               sets each variable without whose help a row cannot be met; none where p has no completion that meets the rows
 //
 // Rows and parts are those of the crate charging. Read specs/Parts.antt; proofs/PartLaws.antt has the argument.
@@ -11,7 +12,7 @@ ghost use Rattle.charging.specs.Rows.{of};
 ghost use Rattle.charging.specs.Meets.{count, Meets};
 ghost use Rattle.narrowing.specs.Parts.{Good, Put, Cuts, Maybe};
 
-use charging::{Part, Rows, Term};
+use charging::{Part, Rows};
 
 // The part that sets no variable.
 pub fn blank(n: usize) -> Part
@@ -30,35 +31,32 @@ pub fn put(n: usize, p: Part, v: usize, b: u8) -> Part
     requires { Good n p × (v < n) × (n ≤ 64) × (b < 2) × (of p v ≡ 2) }
     ensures { Put n p v b result }
 {
-    let one: u64 = 1;
-    let s = one << v;
-    let left = p.left - 1;
+    let bit = 1 << v;
+    let off = Part {
+        set: p.set + bit,
+        one: p.one,
+        left: p.left - 1,
+    };
     if b == 0 {
-        return Part {
-            set: p.set + s,
-            one: p.one,
-            left,
-        };
+        return off;
     }
     Part {
-        set: p.set + s,
-        one: p.one + s,
-        left,
+        one: p.one + bit,
+        ..off
     }
 }
 
-// Sets the variable of the term to the side that helps, where the row cannot do without it.
-pub fn push(n: usize, term: Term, slack: u64, p: Part) -> Part
-    requires { Good n p × (term.variable < n) × (term.off < 2) × (n ≤ 64) }
-    ensures { Maybe n p term.variable (1 - term.off) (slack < term.weight) result }
+// Sets v to the other side than `side`, where standing there takes more than `slack`: the weight of a term that a row needs, or a cost.
+pub fn push(n: usize, p: Part, v: usize, side: u8, takes: u64, slack: u64) -> Part
+    requires { Good n p × (v < n) × (side < 2) × (n ≤ 64) }
+    ensures { Maybe n p v (1 - side) (slack < takes) result }
 {
-    if term.weight <= slack {
+    if takes <= slack {
         return p;
     }
-    let v = term.variable as usize;
     let y = p.look(v);
     if y == 2 {
-        return put(n, p, v, 1 - term.off);
+        return put(n, p, v, 1 - side);
     }
     p
 }
@@ -72,7 +70,14 @@ pub fn row(rows: &Rows<'_>, h: usize, p: Part) -> Option<Part>
     let slack = charging::reach(terms, p).checked_sub(rows.needs[h])?;
     let mut q = p;
     for term in terms {
-        q = push(rows.n, *term, slack, q);
+        q = push(
+            rows.n,
+            q,
+            term.variable as usize,
+            term.off,
+            term.weight,
+            slack,
+        );
     }
     Some(q)
 }

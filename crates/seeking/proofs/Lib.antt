@@ -1,4 +1,4 @@
--- For the lister above: StockLaws, SeekLaws.
+-- For the crate above: StockLaws, SeekLaws. SliceLaws serves earlier.
 pub mod StockLaws
 pub mod SeekLaws
 pub mod SliceLaws

@@ -45,7 +45,8 @@ within-or (suc k) f h =
 pub fresh-or : (k : ℕ) (points : List Trade) (c : ℕ) (f : ℕ → ℕ) → Fresh k points c f ⊎ (Fresh k points c f → ⊥)
 fresh-or k points zero f = inl (λ q l. absurd (not-suc-le-zero l))
 fresh-or k points (suc c) f =
-    ⊎_elim (λ y. ⊎_elim (λ z. inr (λ u. u c (omega arith) z)) (λ z. inl (λ q l. below_more (λ (v : ℕ). Within k (row points v) f → ⊥) c y z q (omega arith))) (within-or k (row points c) f))
+    ⊎_elim (λ y. ⊎_elim (λ z. inr (λ u. u c (omega arith) z)) (λ z. inl (λ q l. below_more (λ (v : ℕ). Within k (row points v) f → ⊥) c y z q (omega arith)))
+    (within-or k (row points c) f))
     (λ y. inr (λ u. y (λ q l. u q (omega arith)))) (fresh-or k points c f)
 
 -- what dominates f dominates what f is at most
@@ -85,13 +86,15 @@ module _ (points : List Trade) (c : ℕ) (l : c ≤ length points) where
 
 module _ (k : ℕ) (points : List Trade) (j b : ℕ) where
   pub least-new : Least k points j b → less k 0 (row points j) (row points b) → Least k points (j + 1) j
-  least-new o z = below_more (λ (u : ℕ). less k 0 (row points u) (row points j) → ⊥) j (λ u l y. o u l (lex-trans k 0 (row points u) (row points j) (row points b) y z)) (lex-self k (row points j))
+  least-new o z =
+      below_more (λ (u : ℕ). less k 0 (row points u) (row points j) → ⊥) j (λ u l y. o u l (lex-trans k 0 (row points u) (row points j) (row points b) y z)) (lex-self k (row points j))
 
   pub least-old : Least k points j b → (less k 0 (row points j) (row points b) → ⊥) → Least k points (j + 1) b
   least-old o n = below_more (λ (u : ℕ). less k 0 (row points u) (row points b) → ⊥) j o n
 
   pub greatest-new : Greatest k points j b → less k 0 (row points b) (row points j) → Greatest k points (j + 1) j
-  greatest-new o z = below_more (λ (u : ℕ). less k 0 (row points j) (row points u) → ⊥) j (λ u l y. o u l (lex-trans k 0 (row points b) (row points j) (row points u) z y)) (lex-self k (row points j))
+  greatest-new o z =
+      below_more (λ (u : ℕ). less k 0 (row points j) (row points u) → ⊥) j (λ u l y. o u l (lex-trans k 0 (row points b) (row points j) (row points u) z y)) (lex-self k (row points j))
 
   pub greatest-old : Greatest k points j b → (less k 0 (row points b) (row points j) → ⊥) → Greatest k points (j + 1) b
   greatest-old o n = below_more (λ (u : ℕ). less k 0 (row points b) (row points u) → ⊥) j o n
