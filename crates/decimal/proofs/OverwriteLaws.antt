@@ -5,8 +5,8 @@ use Prim.Native.Nat.{ℕ, suc, ◌+◌, ◌≤◌, ◌<◌}
 use native.Mathlib.Nat.{add-zero}
 use native.Mathlib.Numerals.{add-one}
 use native.Mathlib.Omega.{arith}
-use lib.ListN.{length, take, drop, set, get_or, length-append, length-drop, length-set, take-append-drop}
-use lib.Seq.{length-take-le, take-length, take_at, drop_at, drop-drop, drop-cons, get_or-set_same, take-set-le, drop-set-lt, set_split, paste, paste-suc}
+use lib.ListN.{length, take, drop, set, length-append, length-drop, length-set, take-append-drop}
+use lib.Seq.{length-take-le, take-length, take_at, drop_at, drop-drop, drop-cons, get_or-set_same, take-set-le, drop-set-lt, set_split, paste}
 use Rattle.decimal.specs.Bytes.{overwrite}
 
 -- ---- overwrite

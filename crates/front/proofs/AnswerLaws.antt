@@ -4,23 +4,20 @@ use mathlib.Core.Path.{◌≡◌, refl, sym, ap, ◌∙◌, subst}
 use mathlib.Core.Logic.{◌↔◌}
 use mathlib.Core.List.Memᴰ
 use mathlib.Core.List.{List, [], ◌∷◌, Memᴰ}
-use Prim.Native.Nat.{ℕ, ◌*◌, ◌≤◌, ◌<◌}
-use native.Mathlib.Nat.{div-mul-le_self}
+use Prim.Native.Nat.{ℕ, ◌<◌}
 use native.Mathlib.Omega.{arith}
 use lib.IntN.{ℤ, pos}
 use lib.ListN.{length, get_or, take}
-use Rattle.std.specs.Prelude.{Option, Some, None, Result, Ok, Err}
-use Rattle.std.proofs.lemmas.List.{take_all}
+use Rattle.std.specs.Prelude.{Result, Ok, Err}
 use lib.Signed.{◌≤ℤ◌}
 use Rattle.instance.specs.Tables.{IsInstance}
 use Rattle.instance.specs.Meaning.{Instance, meaning, vector, Feasible}
 use Rattle.judge.specs.Judging.{padded}
 use Rattle.judge.proofs.VectorLaws.{padded-get_or}
-use Rattle.points.specs.Limits.{max_points}
 use Rattle.points.specs.Vectors.{LeAll}
 use Rattle.points.specs.Fronts.{Candidate}
 use Rattle.points.proofs.PlaceLaws.{le_all-at}
-use Rattle.front.specs.Listing.{FrontOf, room, values_left, models_left, Lists}
+use Rattle.front.specs.Listing.{FrontOf, room, values_left, models_left}
 use Rattle.front.specs.Answers.{ListedAs}
 use Rattle.front.specs.declared.errors.ListError.{ListError}
 use Rattle.front.specs.declared.errors.ListError.TheVariants.{NotInstance, Larger}

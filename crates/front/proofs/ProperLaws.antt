@@ -8,7 +8,7 @@ use native.Mathlib.Omega.{arith}
 use lib.IntN.{ℤ, pos, nat_abs}
 use lib.ListN.{length, get_or, take, drop, length-append, length-map, get_or-append, get_or-map}
 use lib.Seq.{get_or-append-add, length-take-le}
-use Rattle.std.specs.Prelude.{Result, Ok, Err}
+use Rattle.std.specs.Prelude.{Ok, Err}
 use Rattle.instance.specs.Lists.{tabulate}
 use Rattle.instance.specs.Tables.{objectives_in, IsInstance}
 use Rattle.instance.specs.Meaning.{meaning, vector}

@@ -1,5 +1,5 @@
 -- When an assignment has no bit from n up.
-use mathlib.Core.Path.{◌≡◌, subst}
+use mathlib.Core.Path.{subst}
 use Prim.Native.Nat.{ℕ, ◌+◌, ◌*◌, ◌/◌, ◌^◌, ◌<◌}
 use native.Mathlib.Nat.{div-eq_of_lt, lt-div-mul-add}
 use native.Mathlib.Omega.{arith}

@@ -3,14 +3,14 @@
 use mathlib.Core.Path.{◌≡◌, refl, ap, sym, ◌∙◌}
 use mathlib.Core.Logic.{⊎_elim}
 use Prim.Native.Nat.{ℕ, ◌+◌, ◌-◌, ◌/◌, ◌^◌, ◌≤◌, ◌<◌}
-use native.Mathlib.Nat.{div-eq_of_lt, div-one}
+use native.Mathlib.Nat.{div-one}
 use native.Mathlib.Omega.{arith}
 use Rattle.charging.specs.declared.parts.Part.{Part}
 use Rattle.charging.specs.Rows.{bit, of, Completes}
 use Rattle.charging.proofs.SumLaws.{eq-or, lt-or}
 use Rattle.charging.proofs.BitLaws.{bit-two}
 use Rattle.charging.proofs.ChargeLaws.{reach-up}
-use Rattle.narrowing.specs.Parts.{Good, Put}
+use Rattle.narrowing.specs.Parts.{Put}
 use Rattle.forcing.specs.declared.goals.Goal.{Goal}
 use Rattle.forcing.specs.Goals.{objective, Wanted}
 use Rattle.forcing.proofs.ForceLaws.{cost-up}

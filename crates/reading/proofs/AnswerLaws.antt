@@ -10,7 +10,7 @@ use lib.ListN.{length, drop, replicate}
 use borrow.Author.Tests.{lt-ltb, le-ltb}
 use Rattle.instance.specs.Limits.{term_room, row_room}
 use Rattle.instance.specs.Layout.{term_numbers, all_terms, entry_numbers, filled, term_table, row_table}
-use Rattle.std.specs.Prelude.{Result, Ok, Err, is_err}
+use Rattle.std.specs.Prelude.{Result, Err, is_err}
 use Rattle.reading.specs.declared.errors.ReadError.{ReadError}
 use Rattle.reading.specs.declared.errors.ReadError.TheVariants.{ShortTable, LongText}
 use Rattle.reading.specs.Limits.{max_text}

@@ -1,11 +1,10 @@
 -- Laws of the tables' cells: a term that is not stored, a room cleared. Assumes nothing.
 use mathlib.Core.Path.{◌≡◌, refl, sym, ap, ◌∙◌}
-use mathlib.Core.Bool.{Bool, true, false, not, cond, ◌&&◌}
+use mathlib.Core.Bool.{Bool, false, not, cond, ◌&&◌}
 use mathlib.Core.List.{List, [], ◌++◌}
-use Prim.Native.Nat.{ℕ, ◌+◌, ◌-◌, ◌*◌, ◌≤◌, ◌<◌}
-use native.Mathlib.Omega.{arith}
+use Prim.Native.Nat.{ℕ, ◌+◌, ◌*◌, ◌≤◌, ◌<◌}
 use lib.IntN.{ℤ, pos}
-use lib.ListN.{length, drop, set, replicate}
+use lib.ListN.{drop, set, replicate}
 use borrow.Author.Tests.{lt-ltb, le-ltb}
 use Rattle.instance.specs.Limits.{max_terms, term_room, row_room}
 use Rattle.instance.specs.Terms.{Term}

@@ -1,9 +1,9 @@
 -- The end of a statement: from a run of terms to what the statement says. Assumes nothing.
-use mathlib.Core.Path.{◌≡◌, refl, sym, ap, ap₂, ◌∙◌}
-use mathlib.Core.Bool.{Bool, true, false, ◌||◌}
+use mathlib.Core.Path.{◌≡◌, sym, ap, ◌∙◌}
+use mathlib.Core.Bool.{Bool, true, ◌||◌}
 use mathlib.Core.List.{List, [], ◌∷◌}
 use Rattle.std.specs.Prelude.{Option, None}
-use Prim.Native.Nat.{ℕ, ◌+◌, ◌≤◌, ◌<◌}
+use Prim.Native.Nat.{ℕ, ◌<◌}
 use native.Mathlib.Omega.{arith}
 use lib.Dec.{ltb}
 use lib.IntN.{ℤ, pos, nat_abs}
@@ -19,7 +19,7 @@ use Rattle.reading.specs.declared.statements.Bound.{Bound}
 use Rattle.reading.specs.declared.statements.Statement.{Statement}
 use Rattle.reading.specs.Grammar.{objective, row, row_end}
 use Rattle.reading.specs.Reading.{any, is_wide}
-use Rattle.reading.specs.Steps.{first_words, is_closed, rest_after, add_terms, IsStop, RunIs, IsBound, NoBound, EntryRead}
+use Rattle.reading.specs.Steps.{first_words, is_closed, rest_after, add_terms, RunIs, IsBound, NoBound, EntryRead}
 use Rattle.reading.proofs.ParseLaws.{adds_none}
 use Rattle.reading.proofs.RunLaws.{or-none}
 use Rattle.reading.proofs.StatementLaws.{adds-last, objective-relation, relation-le, row-bound}

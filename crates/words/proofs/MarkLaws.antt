@@ -9,7 +9,7 @@ use native.Mathlib.Omega.{arith}
 use native.Mathlib.Numerals.{add-one}
 use lib.Dec.{eqb}
 use lib.ListN.{length, get_or, take, drop, take-append-drop, drop_of_length-le, length-drop}
-use lib.Seq.{drop-cons, drop-drop, get_or-take, get_or-drop, length-take-le}
+use lib.Seq.{drop-cons, get_or-take, get_or-drop, length-take-le}
 use borrow.Author.Tests.{ne_eqb, not-true}
 use Rattle.words.specs.declared.Place.{Place}
 use Rattle.words.specs.declared.Place.TheVariants.{Inside, Start, Comment}

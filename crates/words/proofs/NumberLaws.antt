@@ -1,6 +1,6 @@
 -- Laws of what a word says, by its first bytes. Assumes nothing.
 use mathlib.Core.Path.{◌≡◌, refl, sym, ap, ◌∙◌, subst}
-use mathlib.Core.Bool.{Bool, true, false, cond, ◌&&◌}
+use mathlib.Core.Bool.{Bool, true, false, cond}
 use mathlib.Core.List.{List, [], ◌∷◌}
 use Rattle.std.specs.Prelude.{Option, None, Some, is_some}
 use lib.Dec.{T}
@@ -19,7 +19,7 @@ use mir.Val.{SFits, to_z, of_z}
 use Rattle.integers.proofs.SignedLaws.{fits-as, read_as, sfits-abs, bits-value, abs_neg}
 use Rattle.decimal.proofs.NumeralLaws.{read-less}
 use Rattle.words.specs.Answers.{RelationIs}
-use Rattle.words.specs.Numbers.{sign_of, digits, number, negated, literal, relation, is_min}
+use Rattle.words.specs.Numbers.{sign_of, digits, number, negated, literal, relation}
 
 -- what is left of a word after k bytes, as a part of a slice
 abbrev pub rest : ℕ → List ℕ → List ℕ

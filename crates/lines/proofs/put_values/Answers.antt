@@ -1,12 +1,10 @@
-use mathlib.Core.Path.{◌≡◌, ap, ◌∙◌}
-use mathlib.Core.List.{List, ◌∷◌}
-use Prim.Native.Nat.{ℕ, ◌+◌, ◌≤◌}
+use mathlib.Core.List.{◌∷◌}
+use Prim.Native.Nat.{◌+◌, ◌≤◌}
 use native.Mathlib.Omega.{arith}
 use lib.IntN.{ℤ, pos}
 use lib.ListN.{length, get_or, drop}
-use Rattle.std.proofs.Common.{rules}
 use Rattle.decimal.specs.Decimal.{integer}
-use Rattle.writing.proofs.RestLaws.{Put, rest_all, rest-as, rest-none, rest-room, rest_put}
+use Rattle.writing.proofs.RestLaws.{Put, rest-as, rest-none, rest-room, rest_put}
 use Rattle.integers.proofs.SignedLaws.{plain, coded}
 use Rattle.lines.specs.Lines.{values_text}
 use Rattle.lines.proofs.LineLaws.{values-next, values-end, value-fits}

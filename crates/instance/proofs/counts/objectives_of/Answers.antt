@@ -1,5 +1,5 @@
 use mathlib.Core.Path.{◌≡◌, sym, ap, ◌∙◌}
-use Prim.Native.Nat.{ℕ, ◌+◌}
+use Prim.Native.Nat.{◌+◌}
 use native.Mathlib.Omega.{arith}
 use Rattle.instance.proofs.ListLaws.{passed_none, passed-more, passed-stop, passed-all}
 use Rattle.instance.specs.Tables.{is_objective}

@@ -1,6 +1,4 @@
 use mathlib.Core.Path.{sym, subst}
-use Prim.Native.Nat.{ℕ}
-use native.Mathlib.Omega.{arith}
 use borrow.Author.Rules.{rules}
 use Rattle.instance.specs.Parts.{EntryPlaced}
 use Rattle.instance.proofs.TestLaws.{refused, accepted}

@@ -1,5 +1,5 @@
 -- By the tokens: no word, a word that is no number, or no `;` after it, and no row goes on so; else the bound.
-use mathlib.Core.Path.{sym, ◌∙◌, subst}
+use mathlib.Core.Path.{sym, subst}
 use Rattle.words.proofs.TokenLaws.{token-word, token-stop}
 use Rattle.reading.specs.Steps.{BoundIs}
 use Rattle.reading.proofs.StatementLaws.{bound-end, bound-stop, bound-bad, bound-open, bound-more}

@@ -1,5 +1,4 @@
 -- By the first token: nothing, an empty statement, an objective after `min:`, or a row that begins with this very word.
-use borrow.Author.Rules.{rules}
 use mathlib.Core.Path.{◌≡◌, refl, sym, subst, ◌∙◌}
 use native.Mathlib.Omega.{arith}
 use lib.ListN.{length}

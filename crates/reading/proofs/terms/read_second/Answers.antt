@@ -1,5 +1,5 @@
 -- By the token after the coefficient: a word that is a literal makes the term; any other breaks the grammar.
-use mathlib.Core.Path.{sym, ◌∙◌, subst}
+use mathlib.Core.Path.{sym, subst}
 use Rattle.words.proofs.TokenLaws.{token-word, token-stop}
 use Rattle.reading.specs.Steps.{SecondIs}
 use Rattle.reading.proofs.StepLaws.{second-none, second-stop, second-bad}

@@ -1,12 +1,11 @@
 -- By the token: no word or a relation stops the terms, a word that is no number breaks the grammar, else read_second decides.
 use borrow.Author.Rules.{rules}
-use mathlib.Core.Path.{◌≡◌, sym, ◌∙◌, subst}
+use mathlib.Core.Path.{◌≡◌, sym, ◌∙◌}
 use Rattle.std.specs.Prelude.{None}
 use Rattle.std.proofs.lemmas.Result.{err_from_is_err_and}
-use Rattle.words.specs.Numbers.{number, relation}
-use Rattle.words.proofs.TokenLaws.{token-word, token-stop}
+use Rattle.words.specs.Numbers.{number}
+use Rattle.words.proofs.TokenLaws.{token-word}
 use Rattle.words.proofs.NumberLaws.{relation-some, relation-none}
-use Rattle.reading.specs.Steps.{StepIs}
 use Rattle.reading.proofs.StepLaws.{first-bad, stops-word}
 use Rattle.reading.proofs.terms.read_term.Goals.{Then-is_some, Else-is_some}
 use Rattle.reading.proofs.terms.read_term.Goals as goal

@@ -1,14 +1,13 @@
 use borrow.Author.Rules.{rules}
 use mathlib.Core.Path.{◌≡◌, refl, subst}
 use Prim.Native.Nat.{◌+◌}
-use Rattle.std.specs.Prelude.{Option, Result, Ok}
+use Rattle.std.specs.Prelude.{Option, Ok}
 use Rattle.std.proofs.lemmas.Result.{err_from_is_err_and}
-use Rattle.reading.specs.declared.terms.Malformed.{Malformed}
 use Rattle.reading.specs.declared.terms.TermRead.{TermRead}
 use Rattle.reading.specs.Stored.{term_of, store_at}
 use Rattle.reading.specs.Steps.{StepIs}
 use Rattle.reading.proofs.ParseLaws.{broken-back}
-use Rattle.reading.proofs.RunLaws.{run-start, run-kept, run-length, run-step}
+use Rattle.reading.proofs.RunLaws.{run-start, run-kept, run-step}
 use Rattle.reading.proofs.terms.read_terms.Goals as goal
 
 pub loop-t-init : goal.loop-t-init

@@ -1,13 +1,12 @@
 use borrow.Author.Rules.{rules}
-use mathlib.Core.Path.{◌≡◌, refl, sym, ap, ◌∙◌, subst}
-use native.Mathlib.Omega.{arith}
+use mathlib.Core.Path.{◌≡◌, sym, ap, ◌∙◌, subst}
 use mathlib.Core.List.{[], ◌∷◌}
 use Prim.Native.Nat.{◌+◌, ◌*◌}
 use lib.IntN.{pos}
 use lib.ListN.{length}
 use lib.Seq.{sets}
 use Rattle.instance.specs.Kinds.{number_of}
-use Rattle.std.specs.Prelude.{Option, Result, Ok, Err, None, Some}
+use Rattle.std.specs.Prelude.{Option, Result, Ok, Err}
 use Rattle.std.proofs.lemmas.Result.{err_from_is_err_and}
 use Rattle.words.specs.Tokens.{marks_at}
 use Rattle.reading.specs.declared.terms.Malformed.{Malformed}
@@ -15,8 +14,8 @@ use Rattle.reading.specs.declared.statements.Statement.{Statement}
 use Rattle.reading.specs.Grammar.{statement}
 use Rattle.reading.specs.Steps.{Begins, EntryRead}
 use Rattle.reading.specs.Outcomes.{VerdictIs}
-use Rattle.reading.proofs.ReadLaws.{taking-start, taking-total, taking-terms, taking-rows, taking-none, taking-done, taking-broken, taking-refused, verdict-is}
-use Rattle.reading.proofs.TakeLaws.{entries-room, taking_step}
+use Rattle.reading.proofs.ReadLaws.{taking-start, taking-none, taking-done, taking-broken, taking-refused, verdict-is}
+use Rattle.reading.proofs.TakeLaws.{taking_step}
 use Rattle.reading.proofs.texts.read_statements.Goals.{After-read_statement, In-Some}
 use Rattle.reading.proofs.texts.read_statements.Goals as goal
 

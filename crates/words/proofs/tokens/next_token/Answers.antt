@@ -1,6 +1,6 @@
 -- What stands after the blanks: the end, a `;`, or a word up to its end; each is one law of the marks.
 use borrow.Author.Rules.{rules}
-use mathlib.Core.Path.{◌≡◌, sym, ap, ◌∙◌}
+use mathlib.Core.Path.{◌∙◌}
 use Prim.Native.Nat.{◌<◌}
 use native.Mathlib.Omega.{arith}
 use lib.ListN.{length}

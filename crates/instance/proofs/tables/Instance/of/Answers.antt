@@ -1,14 +1,14 @@
 -- Each part of the check decides a part of what makes tables an instance: a part that refuses shows that they are none, and when all
 -- are passed the parts together are an instance.
 use borrow.Author.Rules.{rules}
-use mathlib.Core.Path.{◌≡◌, sym, ap, subst, ◌∙◌}
+use mathlib.Core.Path.{◌≡◌, sym, subst}
 use Prim.Native.Nat.{ℕ, ◌+◌, ◌*◌}
 use native.Mathlib.Omega.{arith}
 use Rattle.std.specs.Prelude.{Some}
 use Rattle.instance.specs.Limits.{term_room, row_room}
 use Rattle.instance.specs.Tables.{ZeroFrom, objectives_in, rows_in, entries_in, terms_in}
 use Rattle.instance.specs.Parts.{TotalOf, NamedIn, NoBounds, EntriesOk}
-use Rattle.instance.proofs.TestLaws.{refused, accepted}
+use Rattle.instance.proofs.TestLaws.{accepted}
 use Rattle.instance.proofs.TableLaws.{rows_in-from, entries_in-from, part-zero, zero-part}
 use Rattle.instance.proofs.tables.Instance.of.Goals.{After-rows_of-count, After-highest_of}
 use Rattle.instance.proofs.tables.Instance.of.Goals as goal
