@@ -1,5 +1,4 @@
--- Laws of listing's answers: that the code's cases are the document's; then, for callers, that answers are determined and the list is complete.
--- Assumes nothing.
+-- Laws of listing's answers, for callers: they are determined, and the list is complete. Assumes nothing.
 use mathlib.Core.Path.{◌≡◌, refl, sym, ap, ◌∙◌, subst}
 use mathlib.Core.Logic.{◌↔◌}
 use mathlib.Core.List.Memᴰ
@@ -28,7 +27,8 @@ use Rattle.front.proofs.ListingLaws.{candidate}
 
 module _ (ts rs vs : List ℤ) (ms : List ℕ) where
   -- Two answers that the contract allows are equal, and so is all lent memory: there is one front, and both are told by it.
-  pub listed-unique : (r s : Result ℕ ListError) (vs₁ vs₂ : List ℤ) (ms₁ ms₂ : List ℕ) → ListedAs ts rs vs ms vs₁ ms₁ r → ListedAs ts rs vs ms vs₂ ms₂ s → (r ≡ s) × (vs₁ ≡ vs₂) × (ms₁ ≡ ms₂)
+  pub listed-unique : (r s : Result ℕ ListError) (vs₁ vs₂ : List ℤ) (ms₁ ms₂ : List ℕ) → ListedAs ts rs vs ms vs₁ ms₁ r → ListedAs ts rs vs ms vs₂ ms₂ s
+      → (r ≡ s) × (vs₁ ≡ vs₂) × (ms₁ ≡ ms₂)
   listed-unique (Ok k) (Ok m) vs₁ vs₂ ms₁ ms₂ p q =
       let e : p.front ≡ q.front = front-only (meaning ts rs) p.is_front q.is_front in (
         ap Ok (p.count ∙ ap length e ∙ sym q.count),

@@ -100,8 +100,12 @@ module _ {ts rs : List ℤ} {problem : Problem} (nm : Normal ts rs problem.count
   fresh_up a f x u le =
       let p = place-of l.xs x u in
       f p.place (omega (arith, p.inside, l.count, l.trades))
-      (λ i j. omega
-      (arith, le-costs problem nm x.model a (subst (λ (v : List ℤ). LeAll v (padded (vector I a))) (listed-is x u) le) i j, l.costs_are p.place i (omega (arith, p.inside, l.count)) j, ap (λ (b : ℕ). vec problem (bit b) i) p.model_is))
+      (λ i j. omega (
+        arith,
+        le-costs problem nm x.model a (subst (λ (v : List ℤ). LeAll v (padded (vector I a))) (listed-is x u) le) i j,
+        l.costs_are p.place i (omega (arith, p.inside, l.count)) j,
+        ap (λ (b : ℕ). vec problem (bit b) i) p.model_is,
+      ))
 
   -- a fresh candidate is fit for the search
   fit : (c : Candidate) → CandidateOf I c → Fresh l.xs c → Fit problem listed (bit c.model)

@@ -75,7 +75,8 @@ module _ (xs : List Candidate) (four : Fours xs) (vs : List ℤ) (ms : List ℕ)
       let e : k * 4 ≡ k * 4 + 0 = omega arith in
       let ws = drop (length xs * 4) vs in
       candidate-same
-      (padded-as v (ap (λ (n : ℕ). get_or (values_left xs vs) n (pos 0)) e ∙ values-at xs ws four k 0 h (omega arith)) (values-at xs ws four k 1 h (omega arith)) (values-at xs ws four k 2 h (omega arith)) (values-at xs ws four k 3 h (omega arith))
+      (padded-as v (ap (λ (n : ℕ). get_or (values_left xs vs) n (pos 0)) e ∙ values-at xs ws four k 0 h (omega arith))
+      (values-at xs ws four k 1 h (omega arith)) (values-at xs ws four k 2 h (omega arith)) (values-at xs ws four k 3 h (omega arith))
       ∙ four-whole v (four (point xs k) (point-member xs k h)))
       (models-at xs (drop (length xs) ms) k h)
 

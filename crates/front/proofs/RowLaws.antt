@@ -36,6 +36,10 @@ module _ {ts rs : List ℤ} {sizes : Sized} (s : SizesOf ts rs sizes) {starts : 
         is = s.is;
         objectives = s.objectives;
         variables = variables;
-        narrow = record { few = omega (arith, long, terms-fit, ap length terms_are); small = subst (λ (terms : List Term). (k : ℕ) → k < length terms → weight terms k ≤ max_coef) (sym terms_are) (few-small s.is s.objectives s.rows l) };
+        narrow =
+            record {
+              few = omega (arith, long, terms-fit, ap length terms_are);
+              small = subst (λ (terms : List Term). (k : ℕ) → k < length terms → weight terms k ≤ max_coef) (sym terms_are) (few-small s.is s.objectives s.rows l);
+            };
         normal = λ costs p. normal-is s.is s.objectives s.rows l rows variables starts_are terms_are needs_are p;
       }

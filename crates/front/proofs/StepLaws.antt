@@ -6,7 +6,7 @@ use native.Mathlib.Omega.{arith}
 use native.Mathlib.Decide.{dec_lt}
 use native.Mathlib.Numerals.{add-one}
 use lib.IntN.{ℤ}
-use lib.ListN.{length, get_or, set, take, drop, length-append, length-map, length-drop, length-set, get_or-append}
+use lib.ListN.{length, get_or, set, take, drop, length-append, length-map, length-set, get_or-append}
 use lib.Seq.{drop-cons, drop-drop, set_at, get_or_at, get_or-set_same, get_or-set_other}
 use Rattle.std.specs.Prelude.{Option, Some, None}
 use Rattle.std.proofs.Math.Seq.{take-append_seam, drop-append-add}
@@ -106,19 +106,6 @@ module _ {ts rs : List ℤ} {problem : Problem} (nm : Normal ts rs problem.count
 
   listed-length : length (values_of l.xs) ≡ length l.xs * 4
   listed-length = values_length l.xs (λ x u. candidate-four x (l.begins.members x u))
-
-  -- Both runs have their lengths.
-  pub values_same : m * 4 ≤ length vs → length vs' ≡ length vs
-  values_same h = ap length l.values ∙ sum
-    where
-      sum : length (values_left l.xs vs) ≡ length vs
-      sum = omega (arith, length-append (values_of l.xs) (drop (length l.xs * 4) vs), listed-length, length-drop (length l.xs * 4) vs, l.count)
-
-  pub models-same : m ≤ length ms → length ms' ≡ length ms
-  models-same h = ap length l.models ∙ sum
-    where
-      sum : length (models_left l.xs ms) ≡ length ms
-      sum = omega (arith, length-append (models_of l.xs) (drop (length l.xs) ms), length-map l.xs (λ c. c.model), length-drop (length l.xs) ms, l.count)
 
   -- One point more: the next trade of the search, its values and its model stored.
   module _ {trade : Trade} {listed' : List Trade} (x : IsNext problem listed trade) (p : Added listed listed' trade) where

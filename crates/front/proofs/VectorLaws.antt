@@ -3,21 +3,19 @@ use mathlib.Core.Path.{◌≡◌, refl, sym, ap, ◌∙◌, subst}
 use mathlib.Core.Logic.{◌⊎◌, inl, inr, ⊎_elim}
 use mathlib.Core.List.{List}
 use Prim.Native.Nat.{ℕ, zero, suc, ◌+◌, ◌≤◌, ◌<◌}
-use native.Mathlib.Nat.{mul-le-mul_right, suc-mul}
 use native.Mathlib.Omega.{arith}
 use native.Mathlib.Decide.{dec_lt}
 use lib.IntN.{ℤ, pos}
 use lib.ListN.{get_or}
 use lib.Signed.{◌≤ℤ◌, ≤ℤ_refl}
 use Rattle.integers.proofs.SignedLaws.{up, dn, le-to, ≤ℤ-eq}
-use Rattle.charging.specs.declared.rows.Cost.{Cost}
-use Rattle.charging.specs.Rows.{bit, Objectives}
+use Rattle.charging.specs.Rows.{bit}
 use Rattle.capping.specs.declared.problems.Problem.{Problem}
 use Rattle.capping.specs.Caps.{vec, less}
 use Rattle.instance.specs.Meaning.{meaning, vector}
 use Rattle.judge.specs.Judging.{padded}
 use Rattle.judge.proofs.VectorLaws.{vector-at, vector-none, padded-get_or}
-use Rattle.normal.specs.Costs.{value_of, PricedAll}
+use Rattle.normal.specs.Costs.{value_of}
 use Rattle.normal.specs.Normal.{Normal}
 use Rattle.points.specs.Vectors.{LeAll, Lex}
 use Rattle.points.proofs.OrderLaws.{le_all-refl}
@@ -33,10 +31,6 @@ less-at (suc m) j p f g l h e d =
     first : Dec (j < p) → (j ≡ p) ⊎ (j < p)
     first (yes u) = inr u
     first (no u) = inl (omega arith)
-
--- objectives that are laid out are objectives for the search
-pub priced-objectives : {ts rs : List ℤ} {n k : ℕ} {costs : List Cost} → PricedAll ts rs n k costs → Objectives n k costs
-priced-objectives {ts} {rs} {n} {k} p = record { long = λ i h. omega (arith, p.long, suc-mul i n, mul-le-mul_right n h); each = λ i h. (p.each i h).are }
 
 module _ {ts rs : List ℤ} (problem : Problem) (nm : Normal ts rs problem.count problem.rows problem.costs.now) where
   -- The four values of an assignment, and its costs.
@@ -92,9 +86,22 @@ module _ {ts rs : List ℤ} (problem : Problem) (nm : Normal ts rs problem.count
               here (yes m) = m
               here (no m) =
                   absurd
-                  (omega
-                  (arith, le-to ((nm.priced.each q.place u).value_le b a (omega arith)), q.less, ap up (at-used a q.place u), ap dn (at-used a q.place u), ap up (at-used b q.place u), ap dn (at-used b q.place u)))
+                  (omega (
+                    arith,
+                    le-to ((nm.priced.each q.place u).value_le b a (omega arith)),
+                    q.less,
+                    ap up (at-used a q.place u),
+                    ap dn (at-used a q.place u),
+                    ap up (at-used b q.place u),
+                    ap dn (at-used b q.place u),
+                  ))
           at (no u) =
               absurd
-              (omega
-              (arith, q.less, ap up (at-unused a q.place (omega arith) q.inside), ap dn (at-unused a q.place (omega arith) q.inside), ap up (at-unused b q.place (omega arith) q.inside), ap dn (at-unused b q.place (omega arith) q.inside)))
+              (omega (
+                arith,
+                q.less,
+                ap up (at-unused a q.place (omega arith) q.inside),
+                ap dn (at-unused a q.place (omega arith) q.inside),
+                ap up (at-unused b q.place (omega arith) q.inside),
+                ap dn (at-unused b q.place (omega arith) q.inside),
+              ))

@@ -104,22 +104,16 @@ fn list_instance(
         &mut needs,
     );
     let halves = filled.halves;
-    let plain = Rows {
+    let mut half_rows = Rows {
         n: sizes.variables as usize,
         starts: &starts[..halves + 1],
         terms: &laid[..filled.used],
         needs: &needs[..halves],
         turns: &[],
     };
-    by_length(&plain, &mut turns);
-    let ordered = Rows {
-        n: plain.n,
-        starts: plain.starts,
-        terms: plain.terms,
-        needs: plain.needs,
-        turns: &turns[..halves],
-    };
-    list_rows(terms, rows, k, &ordered, room, values, models)
+    by_length(&half_rows, &mut turns);
+    half_rows.turns = &turns[..halves];
+    list_rows(terms, rows, k, &half_rows, room, values, models)
 }
 
 // Lists the front of the instance that the tables are into the lent runs: every best trade between the objectives, once, in rising order,

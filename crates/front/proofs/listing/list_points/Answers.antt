@@ -12,8 +12,12 @@ use Rattle.front.proofs.listing.list_points.Goals as goal
 
 pub loop-m-init : goal.loop-m-init
 loop-m-init c =
-    let a = c.args in
-    (refl, refl, listing_none a.terms.now a.rows.now a.problem.now a.values.now a.models.now _ refl, stocked-empty a.problem.now _ _ _ (λ i h. get_or-replicate 4 i 0 0 (omega (arith, h, a.problem.now.few))))
+    let a = c.args in (
+      refl,
+      refl,
+      listing_none a.terms.now a.rows.now a.problem.now a.values.now a.models.now _ refl,
+      stocked-empty a.problem.now _ _ _ (λ i h. get_or-replicate 4 i 0 0 (omega (arith, h, a.problem.now.few))),
+    )
 
 pub returns-in_default : goal.returns-in_default
 returns-in_default c =
@@ -25,10 +29,11 @@ loop-m-preserved c =
     let trade = c.in-Some.trade in
     let inside : l.m < length l.listed = omega (arith, l.invariant.0, c.loop-m-test.true, c.requires.room.0) in
     let one = added l.listed l.m trade inside in
-    let x = next-is c.next_point-advance.ensures.next c.in-Some.is in (
+    let x = next-is c.next_point-advance.ensures.next c.in-Some.is in
+    let stored = c.store.ensures.values ∙ ap (λ (v : List ℤ). values_put l.values l.m v) c.values_of.ensures in (
       length-set l.listed l.m trade ∙ l.invariant.0,
       omega (arith, c.next_point-advance.auto, l.invariant.1),
-      listing-more c.requires.normal l.invariant.2 x one (omega (arith, c.loop-m-test.true, c.requires.room.2)) (c.store.ensures.values ∙ ap (λ (v : List ℤ). values_put l.values l.m v) c.values_of.ensures) c.store.ensures.models,
+      listing-more c.requires.normal l.invariant.2 x one (omega (arith, c.loop-m-test.true, c.requires.room.2)) stored c.store.ensures.models,
       stocked-more c.args.problem.now _ _ _ _ (omega (arith, one.many)) one.old c.next_point-advance.ensures.stocked,
     )
 
