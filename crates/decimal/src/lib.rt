@@ -2,6 +2,7 @@
 // Lengths: decimal_len, integer_len, signed_len. Writing: put_byte, put_bytes, put_decimal, put_integer, put_signed.
 // Reading: read_numeral. Document 01, "Instance text" and "The listing program"; read specs/Decimal.antt and specs/Bytes.antt.
 // A put writes from `at` on and answers the place just after what it wrote; the caller has made sure of the room.
+// Kept as a run and a place: lent only a part of `out`, a put would leave open what the whole of `out` ends as.
 #![tactic(auto)]
 
 ghost use Rattle.std.specs.Prelude.{◌≡◌, [], ◌∷◌, ◌+◌, ◌-◌, ◌<◌, ◌≤◌, nat_abs, length};
