@@ -13,17 +13,17 @@ pub struct Advance {
 }
 
 // Takes out the least gathered trade as long as a listed one weakly dominates it, and chooses the one after these.
-pub fn sift(k: usize, listed: &[Trade], points: &mut [Trade], stock: Stock) -> Advance
-    requires { (k ≤ 4) × (stock.count ≤ length points.old) }
-    ensures sifted { Sifted k listed.now points.old stock.count points.new result.stock.count }
+fn sift(problem: &Problem<'_>, listed: &[Trade], points: &mut [Trade], stock: Stock) -> Advance
+    requires { stock.count ≤ length points.old }
+    ensures sifted { Sifted problem.now.count listed.now points.old stock.count points.new result.stock.count }
     ensures limit { result.stock.limit ≡ stock.limit }
-    ensures chosen { Chosen k listed.now points.new result.stock.count result.next }
+    ensures chosen { Chosen problem.now.count listed.now points.new result.stock.count result.next }
 {
     for last in (0..stock.count).rev() {
         let count = last + 1;
-        let j = seeking::least(k, &points[..count]);
+        let j = seeking::least(problem, &points[..count]);
         let trade = points[j];
-        if seeking::fresh(k, &trade.costs, listed) {
+        if seeking::fresh(problem, &trade.costs, listed) {
             return Advance {
                 next: Some(trade),
                 stock: Stock {
@@ -44,7 +44,7 @@ pub fn sift(k: usize, listed: &[Trade], points: &mut [Trade], stock: Stock) -> A
 }
 
 // Gathers anew, by one tree, and chooses.
-pub fn gather(problem: &Problem<'_>, listed: &[Trade], points: &mut [Trade]) -> Advance
+fn gather(problem: &Problem<'_>, listed: &[Trade], points: &mut [Trade]) -> Advance
     requires { 1 ≤ length points.old }
     ensures { Ready problem.now listed.now points.new result.stock result.next }
 {
@@ -57,7 +57,7 @@ pub fn gather(problem: &Problem<'_>, listed: &[Trade], points: &mut [Trade]) -> 
     if stock.count == 0 {
         return Advance { next: None, stock };
     }
-    let j = seeking::least(problem.count, &points[..stock.count]);
+    let j = seeking::least(problem, &points[..stock.count]);
     Advance {
         next: Some(points[j]),
         stock,
@@ -75,7 +75,7 @@ pub fn choose(
     requires stocked { Stocked problem.now listed.now points.old stock }
     ensures { Ready problem.now listed.now points.new result.stock result.next }
 {
-    let had = sift(problem.count, listed, points, stock);
+    let had = sift(problem, listed, points, stock);
     if had.next.is_some() {
         return had;
     }

@@ -17,12 +17,13 @@ ghost use Rattle.advancing.specs.Next.{AtMost, Next};
 ghost use Rattle.advancing.specs.Stocked.{Stocked};
 
 use capping::{Problem, Trade, Vector};
-pub use choices::{Advance, choose, gather, sift};
+pub use choices::Advance;
+use choices::choose;
 use forcing::Goal;
 use seeking::Stock;
 
 // The smallest number of an assignment that meets the rows and costs at most `costs`, where `model` is the number of one.
-pub fn witness(problem: &Problem<'_>, costs: &Vector, model: u64) -> u64
+fn witness(problem: &Problem<'_>, costs: &Vector, model: u64) -> u64
     requires { AtMost problem.now costs.now (bit model) × (model < 2 ^ problem.now.rows.n) }
     ensures { Smallest problem.now.rows.n (AtMost problem.now costs.now) result }
 {

@@ -1,4 +1,5 @@
 // An answer as one 64-bit number: the refusal number (0 for done) in the upper 32 bits, the answer number in the lower 32.
+// Kept a number, since C has no Result.
 ghost use Rattle.std.specs.Prelude.{◌≡◌, ◌≤◌};
 ghost use Rattle.refusals.specs.Numbers.{number_of, value_of};
 ghost use Rattle.basilurn.specs.Words.{packed};

@@ -15,7 +15,7 @@ fn carried(sum: u64) -> u64
     sum % 65_536 + sum / 65_536
 }
 
-// The check of a block: words are added one by one, the carry folded in each time.
+// The check of a block: words are added one by one, the carry folded in each time. A slice is kept, since the writer lends a part of the file.
 pub fn check_of(block: &[u8]) -> u64
     requires { length block.now ≡ block_len }
     ensures value { result ≡ check_of block.now }

@@ -20,7 +20,7 @@ pub use problems::Problem;
 pub use trades::{Trade, Vector};
 
 // R3: the caps that the limit gives, if there is one.
-pub fn ahead(k: usize, low: &Vector, limit: Option<Vector>, cap: Vector) -> Option<Vector>
+fn ahead(k: usize, low: &Vector, limit: Option<Vector>, cap: Vector) -> Option<Vector>
     requires { k ≤ 4 }
     ensures { Tight k low.now cap (Before k limit) result }
 {
@@ -42,7 +42,7 @@ pub fn ahead(k: usize, low: &Vector, limit: Option<Vector>, cap: Vector) -> Opti
 }
 
 // R4: the cap that one trade gives, where `low` leaves it one place to be beaten at.
-pub fn point(k: usize, low: &Vector, costs: &Vector, cap: Vector) -> Option<Vector>
+fn point(k: usize, low: &Vector, costs: &Vector, cap: Vector) -> Option<Vector>
     requires { k ≤ 4 }
     ensures { Tight k low.now cap (λ (f : ℕ → ℕ). Within k (at costs.now) f → ⊥) result }
 {
@@ -63,7 +63,7 @@ pub fn point(k: usize, low: &Vector, costs: &Vector, cap: Vector) -> Option<Vect
 }
 
 // R4, one trade after the other.
-pub fn points(k: usize, low: &Vector, trades: &[Trade], cap: Vector) -> Option<Vector>
+fn points(k: usize, low: &Vector, trades: &[Trade], cap: Vector) -> Option<Vector>
     requires { k ≤ 4 }
     ensures { Tight k low.now cap (Fresh k trades.now (length trades.now)) result }
 {
@@ -75,7 +75,7 @@ pub fn points(k: usize, low: &Vector, trades: &[Trade], cap: Vector) -> Option<V
 }
 
 // Charged lower bounds.
-pub fn charges(problem: &Problem<'_>, p: Part) -> Vector
+fn charges(problem: &Problem<'_>, p: Part) -> Vector
     ensures { Low problem.now problem.now.count p result }
 {
     let mut low = [0; 4];

@@ -21,7 +21,7 @@ pub struct Problem<'a> {
 }
 
 impl<'a> Problem<'a> {
-    // The costs of objective i.
+    // The costs of objective i. As for a Goal: both hand on to one function.
     pub fn costs_of(&self, i: usize) -> &'a [Cost]
         requires { i < self.now.count }
         ensures { result.now ≡ costs_of self.now.rows.n self.now.costs.now i }

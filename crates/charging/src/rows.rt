@@ -4,7 +4,7 @@ ghost use Rattle.charging.specs.Rows.{Table, costs_of};
 
 use crate::parts::Part;
 
-// A term gives its weight unless its variable stands at `off`.
+// A term gives its weight unless its variable stands at `off`. Sides are kept as numbers: the rules are stated on bits, and a look is compared with them.
 #[derive(Clone, Copy, Debug, PartialEq, Eq)]
 pub struct Term {
     pub weight: u64,
@@ -28,7 +28,7 @@ pub struct Turn {
 }
 
 // Half rows over n variables, one after the other: row h has the terms from starts[h] to starts[h + 1], and needs needs[h]. In the order of `turns`
-// they are looked at; no promise rests on that, so any turns are right.
+// they are looked at; no promise rests on that, so any turns are right. `starts` is kept beside `needs`, since it has one number more.
 #[derive(Clone, Copy)]
 pub struct Rows<'a> {
     pub n: usize,

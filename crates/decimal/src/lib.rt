@@ -12,7 +12,7 @@ ghost use Rattle.decimal.specs.Decimal.{decimal, digit_byte, integer, signed, si
 // The most digits of a numeral.
 pub const MAX_DIGITS: usize = 10;
 
-// ---- Lengths
+// ---- Lengths, kept beside the puts: a refusal for room comes before a byte is written
 
 // How many digits x has.
 pub fn decimal_len(x: u64) -> usize

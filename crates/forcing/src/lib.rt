@@ -55,6 +55,7 @@ pub fn reduce(goal: &Goal<'_>, p: Part) -> Option<Part>
     ensures { Cuts goal.now.rows.n (Wanted goal.now) p result }
 {
     let mut q = p;
+    // Kept a loop: it ends with the first round that forces nothing more.
     loop {
         let before = q.left;
         let r = narrowing::pass(&goal.rows, q)?;

@@ -47,7 +47,7 @@ pub fn numbers_at(rows: &[i64], k: usize) -> [i64; Entry::NUMBERS]
     [rows[at], rows[at + 1], rows[at + 2], rows[at + 3]]
 }
 
-// Whether entry k is an objective.
+// Whether entry k is an objective. Here and below the table's own numbers are tested, which may be no kind's.
 pub fn is_objective(rows: &[i64], k: usize) -> bool
     requires { k * 4 + 3 < length rows.now }
     ensures { result ≡ is_objective rows.now k }

@@ -7,7 +7,6 @@
 #![tactic(auto)]
 
 ghost use Rattle.std.specs.Prelude.{◌≡◌, ℕ, ◌≤◌};
-ghost use Rattle.refusals.specs.Numbers.{number_of};
 
 use std::error::Error;
 use std::fmt;
@@ -63,13 +62,3 @@ impl fmt::Display for NotInstance {
 }
 
 impl Error for NotInstance {}
-
-// The number of an answer: 0 for done, else that of the refusal.
-pub fn number_of<T: Copy, E: Refusal>(answer: Result<T, E>) -> u64
-    ensures { result ≡ number_of E.number answer }
-{
-    match answer {
-        Ok(_) => 0,
-        Err(e) => e.number(),
-    }
-}

@@ -25,14 +25,14 @@ pub fn leaf(
     if !finding::met(&problem.rows, q) {
         return stock;
     }
-    let k = problem.count;
     let costs = price(problem, q);
-    if !fresh(k, &costs, listed) {
+    if !fresh(problem, &costs, listed) {
         return stock;
     }
-    if !fresh(k, &costs, &points[..stock.count]) {
+    if !fresh(problem, &costs, &points[..stock.count]) {
         return stock;
     }
+    let k = problem.count;
     if !before(k, &costs, stock.limit) {
         return stock;
     }

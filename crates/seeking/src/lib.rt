@@ -21,12 +21,12 @@ ghost use Rattle.seeking.specs.Gathers.{Found, Held, Gathers};
 use capping::{Problem, Trade, Vector};
 use charging::Part;
 use forcing::Goal;
-pub use leaves::leaf;
-pub use stocks::{Stock, cut_last, greatest, keep, least, worse};
-pub use vectors::{before, earlier, fresh, price, within};
+use leaves::leaf;
+pub use stocks::{Stock, least};
+pub use vectors::fresh;
 
 // Rows, ceilings (R7), caps and charges, until nothing more is forced.
-pub fn reduce(
+fn reduce(
     problem: &Problem<'_>,
     listed: &[Trade],
     gathered: &[Trade],
@@ -42,6 +42,7 @@ pub fn reduce(
         caps: problem.caps,
     };
     let mut q = p;
+    // Kept a loop: it ends with the first round that forces nothing more.
     loop {
         let before = q.left;
         let r = narrowing::pass(&problem.rows, q)?;

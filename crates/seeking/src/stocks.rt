@@ -4,7 +4,7 @@ ghost use Rattle.capping.specs.Caps.{at, Before};
 ghost use Rattle.seeking.specs.Stocks.{Worse, Least, Greatest, Limited, Keeps};
 
 use crate::vectors::{earlier, within};
-use capping::{Trade, Vector};
+use capping::{Problem, Trade, Vector};
 
 // How many trades are gathered, and the limit, if there is one: what does not come before it is not sought.
 #[derive(Clone, Copy, Debug, PartialEq, Eq)]
@@ -14,13 +14,12 @@ pub struct Stock {
 }
 
 // A least of the trades.
-pub fn least(k: usize, trades: &[Trade]) -> usize
-    requires { (k ≤ 4) × (1 ≤ length trades.now) }
-    ensures { (result < length trades.now) × Least k trades.now (length trades.now) result }
+pub fn least(problem: &Problem<'_>, trades: &[Trade]) -> usize
+    ensures { (1 ≤ length trades.now → result < length trades.now) × Least problem.now.count trades.now (length trades.now) result }
 {
     let mut best = 0;
     for (j, trade) in trades.iter().enumerate() {
-        if earlier(k, &trade.costs, &trades[best].costs) {
+        if earlier(problem.count, &trade.costs, &trades[best].costs) {
             best = j;
         }
     }

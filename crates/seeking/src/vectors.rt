@@ -28,14 +28,13 @@ pub fn within(k: usize, f: &Vector, h: &Vector) -> bool
 }
 
 // Whether none of the trades weakly dominates f.
-pub fn fresh(k: usize, f: &Vector, trades: &[Trade]) -> bool
-    requires { k ≤ 4 }
-    ensures yes { result ≡ true → Fresh k trades.now (length trades.now) (at f.now) }
-    ensures no { result ≡ false → Fresh k trades.now (length trades.now) (at f.now) → ⊥ }
+pub fn fresh(problem: &Problem<'_>, f: &Vector, trades: &[Trade]) -> bool
+    ensures yes { result ≡ true → Fresh problem.now.count trades.now (length trades.now) (at f.now) }
+    ensures no { result ≡ false → Fresh problem.now.count trades.now (length trades.now) (at f.now) → ⊥ }
 {
     // Kept a loop: the contract of `all` or `any` left open which trade it was.
     for trade in trades {
-        if within(k, &trade.costs, f) {
+        if within(problem.count, &trade.costs, f) {
             return false;
         }
     }

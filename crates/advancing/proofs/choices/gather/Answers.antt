@@ -16,6 +16,6 @@ returns c =
     let stock = c.search-stock.result in
     let points = c.search-stock.new.points in
     let room = c.search-stock.ensures.held.room in
-    let inside : c.least-j.result < stock.count = omega (arith, c.least-j.ensures.0, front_length points stock.count room) in
+    let inside : c.least-j.result < stock.count = omega (arith, c.least-j.ensures.0 (omega (arith, front_length points stock.count room, c.if-stock-eq0.false)), front_length points stock.count room) in
     ready-some a.problem.now a.listed.now c.blank-p.result c.blank-p.ensures.1 a.points.now points stock c.search-stock.ensures c.least-j.result inside
     (least-front points stock.count room a.problem.now.count c.least-j.result inside c.least-j.ensures.1)

@@ -10,13 +10,13 @@ pub returns-then-fresh-clause-chosen : goal.returns-then-fresh-clause-chosen
 returns-then-fresh-clause-chosen c =
     let points = c.loop-last.points in
     let count = c.loop-last.last - 1 + 1 in
-    let room : count ≤ length points = omega (arith, c.loop-last.invariant.0, c.loop-last.invariant.1.fewer, c.requires.1, c.loop-last-test.true) in
-    let inside : c.least-j.result < count = omega (arith, c.least-j.ensures.0, front_length points count room) in
+    let room : count ≤ length points = omega (arith, c.loop-last.invariant.0, c.loop-last.invariant.1.fewer, c.requires, c.loop-last-test.true) in
+    let inside : c.least-j.result < count = omega (arith, c.least-j.ensures.0 (omega (arith, front_length points count room)), front_length points count room) in
     record {
       place = c.least-j.result;
       inside = inside;
       here = refl;
-      least = least-front points count room c.args.k c.least-j.result inside c.least-j.ensures.1;
+      least = least-front points count room c.args.problem.now.count c.least-j.result inside c.least-j.ensures.1;
       fresh = c.fresh.ensures.yes c.if-fresh.true;
     }
 
@@ -25,9 +25,9 @@ loop-last-preserved c =
     let points = c.loop-last.points in
     let last = c.loop-last.last - 1 in
     let e : c.loop-last.last ≡ last + 1 = omega (arith, c.loop-last-test.true) in
-    let room : last + 1 ≤ length points = omega (arith, c.loop-last.invariant.0, c.loop-last.invariant.1.fewer, c.requires.1) in
-    let inside : c.least-j.result < last + 1 = omega (arith, c.least-j.ensures.0, front_length points (last + 1) room) in (
+    let room : last + 1 ≤ length points = omega (arith, c.loop-last.invariant.0, c.loop-last.invariant.1.fewer, c.requires) in
+    let inside : c.least-j.result < last + 1 = omega (arith, c.least-j.ensures.0 (omega (arith, front_length points (last + 1) room)), front_length points (last + 1) room) in (
       simp length-set c.loop-last.invariant.0,
-      sifted-drop c.args.k c.args.listed.now c.args.points.now c.args.stock.count points last c.least-j.result (rw e at c.loop-last.invariant.1) inside (omega arith)
+      sifted-drop c.args.problem.now.count c.args.listed.now c.args.points.now c.args.stock.count points last c.least-j.result (rw e at c.loop-last.invariant.1) inside (omega arith)
           (c.fresh.ensures.no c.if-fresh.false),
     )
