@@ -15,6 +15,7 @@ use instance::Instance;
 use normal::ceilings::{MAX_CEILINGS, lay_ceilings};
 use normal::costs::lay_objectives;
 use normal::fill::lay_rows;
+use normal::narrow::NarrowRows;
 use normal::rows::Filled;
 use points::Point;
 
@@ -63,7 +64,8 @@ fn list_rows(
     let mut caps = [0; MAX_CEILINGS];
     let mut order = [0; MAX_VARIABLES];
     lay_objectives(terms, rows, k, n, &mut costs);
-    let above = lay_ceilings(half_rows, &mut ceilings, &mut caps);
+    let narrow = NarrowRows { rows: *half_rows };
+    let above = lay_ceilings(&narrow, &mut ceilings, &mut caps);
     by_share(&costs, k, n, &mut order);
     let problem = Problem {
         rows: *half_rows,

@@ -5,11 +5,12 @@
 ghost use Rattle.std.specs.Prelude.{◌≡◌, ℕ, ◌*◌, ◌^◌, ◌≤◌, ◌<◌, length, take};
 ghost use Rattle.charging.specs.Meets.{count, Ceiled};
 ghost use Rattle.normal.specs.Costs.{side_of};
-ghost use Rattle.normal.specs.Ceilings.{Narrow, Heaps, Ceiling, CeilingIf, CeilingAll};
+ghost use Rattle.normal.specs.Ceilings.{Heaps, Ceiling, CeilingIf, CeilingAll};
 
 use crate::costs::{MAX_SIDES, Sides};
 use crate::heaps::{heap_row, lay_heap, weight_of};
-use charging::{Cost, Rows};
+use crate::narrow::NarrowRows;
+use charging::Cost;
 
 // How many ceilings are laid out at most.
 pub const MAX_CEILINGS: usize = 4;
@@ -20,69 +21,70 @@ const MIN_TERMS: usize = 8;
 const SUM_TERMS: usize = 3;
 
 // Whether half row h is tight: it has so many terms at least, and must reach more than half of what it weighs.
-fn is_tight(rows: &Rows<'_>, h: usize, least: usize) -> bool
-    requires narrow { Narrow rows.now }
-    requires h_in_bounds { h < count rows.now }
+fn is_tight(half: &NarrowRows<'_>, h: usize, least: usize) -> bool
+    requires h_in_bounds { h < count half.now.rows }
 {
-    let terms = rows.terms_of(h);
+    let terms = half.rows.terms_of(h);
     let weight = weight_of(terms);
-    let need = rows.needs[h];
+    let need = half.rows.needs[h];
     least <= terms.len() && need <= weight && weight - need < need
 }
 
 // Lays half row h out as a ceiling, and answers its cap.
-fn lay_ceiling(rows: &Rows<'_>, h: usize, costs: &mut [Cost]) -> u64
-    requires narrow { Narrow rows.now }
-    requires h_in_bounds { (h < count rows.now) × (length costs.old ≡ rows.now.n) }
-    ensures { Ceiling rows.now costs.new result }
+fn lay_ceiling(half: &NarrowRows<'_>, h: usize, costs: &mut [Cost]) -> u64
+    requires h_in_bounds { (h < count half.now.rows) × (length costs.old ≡ half.now.rows.n) }
+    ensures { Ceiling half.now.rows costs.new result }
 {
     let mut sides = [Sides::NONE; MAX_SIDES];
-    let slack = heap_row(rows, h, &mut sides);
+    let slack = heap_row(half, h, &mut sides);
     lay_heap(&sides, slack, costs)
 }
 
 // Lays half row h out as one more ceiling, if it is tight and there is room; answers how many there are then.
-fn lay_if(rows: &Rows<'_>, h: usize, laid: usize, costs: &mut [Cost], caps: &mut [u64]) -> usize
-    requires narrow { Narrow rows.now }
-    requires h_in_bounds { (h < count rows.now) × (laid ≤ 4) × (4 * rows.now.n ≤ length costs.old) × (4 ≤ length caps.old) }
-    requires all { CeilingAll rows.now laid costs.old caps.old }
-    ensures { (result ≤ 4) × CeilingAll rows.now result costs.new caps.new }
+fn lay_if(
+    half: &NarrowRows<'_>,
+    h: usize,
+    laid: usize,
+    costs: &mut [Cost],
+    caps: &mut [u64],
+) -> usize
+    requires h_in_bounds { (h < count half.now.rows) × (laid ≤ 4) × (4 * half.now.rows.n ≤ length costs.old) × (4 ≤ length caps.old) }
+    requires all { CeilingAll half.now.rows laid costs.old caps.old }
+    ensures { (result ≤ 4) × CeilingAll half.now.rows result costs.new caps.new }
 {
     if MAX_CEILINGS <= laid {
         return laid;
     }
-    if !is_tight(rows, h, MIN_TERMS) {
+    if !is_tight(half, h, MIN_TERMS) {
         return laid;
     }
-    let from = laid * rows.n;
-    caps[laid] = lay_ceiling(rows, h, &mut costs[from..from + rows.n]);
+    let from = laid * half.rows.n;
+    caps[laid] = lay_ceiling(half, h, &mut costs[from..from + half.rows.n]);
     laid + 1
 }
 
 // Adds what half row h withholds to the sides, if it is tight; answers how much that is at most, 0 where it is not tight.
-fn heap_if(rows: &Rows<'_>, h: usize, sides: &mut [Sides]) -> u64
-    requires narrow { Narrow rows.now }
-    requires h_in_bounds { (h < count rows.now) × (rows.now.n ≤ length sides.old) × ((v b : ℕ) → side_of sides.old v b ≤ 2 ^ 40) }
-    ensures { Heaps rows.now h sides.old sides.new result }
+fn heap_if(half: &NarrowRows<'_>, h: usize, sides: &mut [Sides]) -> u64
+    requires h_in_bounds { (h < count half.now.rows) × (half.now.rows.n ≤ length sides.old) × ((v b : ℕ) → side_of sides.old v b ≤ 2 ^ 40) }
+    ensures { Heaps half.now.rows h sides.old sides.new result }
 {
-    if !is_tight(rows, h, SUM_TERMS) {
+    if !is_tight(half, h, SUM_TERMS) {
         return 0;
     }
-    heap_row(rows, h, sides)
+    heap_row(half, h, sides)
 }
 
 // Lays the sum of the tight half rows out as a ceiling, and answers its cap where it is the sum of two or more. It decides, say, more things than
 // places, one thing in a place.
-fn lay_sum(rows: &Rows<'_>, costs: &mut [Cost]) -> Option<u64>
-    requires narrow { Narrow rows.now }
-    requires n_value { length costs.old ≡ rows.now.n }
-    ensures { CeilingIf rows.now costs.new result }
+fn lay_sum(half: &NarrowRows<'_>, costs: &mut [Cost]) -> Option<u64>
+    requires n_value { length costs.old ≡ half.now.rows.n }
+    ensures { CeilingIf half.now.rows costs.new result }
 {
     let mut sides = [Sides::NONE; MAX_SIDES];
     let mut slack: u64 = 0;
     let mut summed: usize = 0;
-    for h in 0..rows.needs.len() {
-        let more = heap_if(rows, h, &mut sides);
+    for h in 0..half.rows.needs.len() {
+        let more = heap_if(half, h, &mut sides);
         slack += more;
         if 0 < more {
             summed += 1;
@@ -96,12 +98,11 @@ fn lay_sum(rows: &Rows<'_>, costs: &mut [Cost]) -> Option<u64>
 }
 
 // Lays the sum of the tight half rows out as the first ceiling, if it is one; answers how many there are then.
-fn lay_first(rows: &Rows<'_>, costs: &mut [Cost], caps: &mut [u64]) -> usize
-    requires narrow { Narrow rows.now }
-    requires n_in_bounds { (4 * rows.now.n ≤ length costs.old) × (4 ≤ length caps.old) }
-    ensures { (result ≤ 1) × CeilingAll rows.now result costs.new caps.new }
+fn lay_first(half: &NarrowRows<'_>, costs: &mut [Cost], caps: &mut [u64]) -> usize
+    requires n_in_bounds { (4 * half.now.rows.n ≤ length costs.old) × (4 ≤ length caps.old) }
+    ensures { (result ≤ 1) × CeilingAll half.now.rows result costs.new caps.new }
 {
-    let Some(cap) = lay_sum(rows, &mut costs[..rows.n]) else {
+    let Some(cap) = lay_sum(half, &mut costs[..half.rows.n]) else {
         return 0;
     };
     caps[0] = cap;
@@ -109,14 +110,13 @@ fn lay_first(rows: &Rows<'_>, costs: &mut [Cost], caps: &mut [u64]) -> usize
 }
 
 // Lays the sum of the tight half rows out as a ceiling, then the first tight ones that are long, four ceilings at most, and answers how many.
-pub fn lay_ceilings(rows: &Rows<'_>, costs: &mut [Cost], caps: &mut [u64]) -> usize
-    requires narrow { Narrow rows.now }
-    requires n_in_bounds { (4 * rows.now.n ≤ length costs.old) × (4 ≤ length caps.old) }
-    ensures { (result ≤ 4) × Ceiled rows.now costs.new (take result caps.new) }
+pub fn lay_ceilings(half: &NarrowRows<'_>, costs: &mut [Cost], caps: &mut [u64]) -> usize
+    requires n_in_bounds { (4 * half.now.rows.n ≤ length costs.old) × (4 ≤ length caps.old) }
+    ensures { (result ≤ 4) × Ceiled half.now.rows costs.new (take result caps.new) }
 {
-    let mut count = lay_first(rows, costs, caps);
-    for h in 0..rows.needs.len() {
-        count = lay_if(rows, h, count, costs, caps);
+    let mut count = lay_first(half, costs, caps);
+    for h in 0..half.rows.needs.len() {
+        count = lay_if(half, h, count, costs, caps);
     }
     count
 }

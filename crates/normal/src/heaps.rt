@@ -4,10 +4,11 @@ ghost use Rattle.charging.specs.Rows.{weight};
 ghost use Rattle.charging.specs.Meets.{count};
 ghost use Rattle.instance.specs.Limits.{max_coef, max_terms, max_variable};
 ghost use Rattle.normal.specs.Costs.{side_of, base_of, Settled};
-ghost use Rattle.normal.specs.Ceilings.{Narrow, Heaps, weights_in};
+ghost use Rattle.normal.specs.Ceilings.{Heaps, weights_in};
 
 use crate::costs::{Sides, settle};
-use charging::{Cost, Rows, Term};
+use crate::narrow::NarrowRows;
+use charging::{Cost, Term};
 
 // What terms weigh.
 pub fn weight_of(terms: &[Term]) -> u64
@@ -36,16 +37,15 @@ fn base_of(n: usize, sides: &[Sides]) -> u64
 }
 
 // Adds what half row h withholds to the sides, and answers how much that is at most where the row is met.
-pub fn heap_row(rows: &Rows<'_>, h: usize, sides: &mut [Sides]) -> u64
-    requires narrow { Narrow rows.now }
-    requires h_in_bounds { (h < count rows.now) × (rows.now.n ≤ length sides.old) × ((v b : ℕ) → side_of sides.old v b ≤ 2 ^ 40) }
-    ensures { Heaps rows.now h sides.old sides.new result }
+pub fn heap_row(half: &NarrowRows<'_>, h: usize, sides: &mut [Sides]) -> u64
+    requires h_in_bounds { (h < count half.now.rows) × (half.now.rows.n ≤ length sides.old) × ((v b : ℕ) → side_of sides.old v b ≤ 2 ^ 40) }
+    ensures { Heaps half.now.rows h sides.old sides.new result }
 {
-    let terms = rows.terms_of(h);
+    let terms = half.rows.terms_of(h);
     for t in terms {
         sides[usize::from(t.variable)].add(t.off, t.weight);
     }
-    weight_of(terms).saturating_sub(rows.needs[h])
+    weight_of(terms).saturating_sub(half.rows.needs[h])
 }
 
 // Lays the sides out as costs, and answers their cap where what meets the rows has at most `slack` of the sides.

@@ -5,6 +5,7 @@
 pub mod rows; // rows.rt: one half row laid out
 pub mod fill; // fill.rt: the rows of an instance, one after the other
 pub mod costs; // costs.rt: objectives, by what each variable costs
+pub mod narrow; // narrow.rt: half rows with the bounds of an instance
 pub mod heaps; // heaps.rt: what half rows withhold, added up
 pub mod ceilings; // ceilings.rt: half rows as objectives with a cap
 

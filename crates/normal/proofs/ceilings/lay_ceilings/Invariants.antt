@@ -4,4 +4,4 @@ use Rattle.normal.specs.Ceilings.{CeilingAll}
 use Rattle.normal.proofs.ceilings.lay_ceilings.Given as goal
 
 abbrev pub invariant-loop-h : goal.invariant-loop-h
-invariant-loop-h l = (l.count ≤ 4) × CeilingAll l.rows l.count l.costs l.caps
+invariant-loop-h l = (l.count ≤ 4) × CeilingAll l.half.rows l.count l.costs l.caps

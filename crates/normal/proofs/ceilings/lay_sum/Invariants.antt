@@ -7,5 +7,5 @@ use Rattle.normal.proofs.ceilings.lay_sum.Given as goal
 
 abbrev pub invariant-loop-h : goal.invariant-loop-h
 invariant-loop-h l =
-    (l.summed ≤ l.h) × (get_or l.rows.starts.now 0 0 ≤ get_or l.rows.starts.now l.h 0) × (get_or l.rows.starts.now l.h 0 - get_or l.rows.starts.now 0 0 ≤ max_terms + max_terms)
-    × Heap l.rows l.sides l.slack (get_or l.rows.starts.now l.h 0 - get_or l.rows.starts.now 0 0)
+    (l.summed ≤ l.h) × (get_or l.half.rows.starts.now 0 0 ≤ get_or l.half.rows.starts.now l.h 0) × (get_or l.half.rows.starts.now l.h 0 - get_or l.half.rows.starts.now 0 0 ≤ max_terms + max_terms)
+    × Heap l.half.rows l.sides l.slack (get_or l.half.rows.starts.now l.h 0 - get_or l.half.rows.starts.now 0 0)
