@@ -40,15 +40,24 @@ put_word-b-requires c =
 pub put_word-c-requires : goal.put_word-c-requires
 put_word-c-requires c =
     rest-room (variables_word ++ decimal c.args.n) (end_text c.args.cut)
-    (after-objectives c.args.out.now c.args.points c.args.objectives c.args.n c.args.cut c.requires (c.put_word-a.ensures.left, c.put_word-a.ensures.next) (c.put_word-b.ensures.left, c.put_word-b.ensures.next))
+    (after-objectives c.args.out.now c.args.points c.args.objectives c.args.n c.args.cut c.requires
+    (c.put_word-a.ensures.left, c.put_word-a.ensures.next)
+    (c.put_word-b.ensures.left, c.put_word-b.ensures.next))
 
 pub put_end-requires : goal.put_end-requires
 put_end-requires c =
     rest-room-all
-    (after-variables c.args.out.now c.args.points c.args.objectives c.args.n c.args.cut c.requires (c.put_word-a.ensures.left, c.put_word-a.ensures.next) (c.put_word-b.ensures.left, c.put_word-b.ensures.next) (c.put_word-c.ensures.left, c.put_word-c.ensures.next))
+    (after-variables c.args.out.now c.args.points c.args.objectives c.args.n c.args.cut c.requires
+    (c.put_word-a.ensures.left, c.put_word-a.ensures.next)
+    (c.put_word-b.ensures.left, c.put_word-b.ensures.next)
+    (c.put_word-c.ensures.left, c.put_word-c.ensures.next))
 
 pub returns : goal.returns
 returns c =
     let r =
-    after-variables c.args.out.now c.args.points c.args.objectives c.args.n c.args.cut c.requires (c.put_word-a.ensures.left, c.put_word-a.ensures.next) (c.put_word-b.ensures.left, c.put_word-b.ensures.next) (c.put_word-c.ensures.left, c.put_word-c.ensures.next) in
-    let p = rest-put-all r (c.put_end.ensures.left, c.put_end.ensures.next) in record { left = p.0; next = omega (arith, p.1); small = omega (arith, p.1, front-most c.args.points c.args.objectives c.args.n c.args.cut) }
+    after-variables c.args.out.now c.args.points c.args.objectives c.args.n c.args.cut c.requires
+    (c.put_word-a.ensures.left, c.put_word-a.ensures.next)
+    (c.put_word-b.ensures.left, c.put_word-b.ensures.next)
+    (c.put_word-c.ensures.left, c.put_word-c.ensures.next) in
+    let p = rest-put-all r (c.put_end.ensures.left, c.put_end.ensures.next) in
+    record { left = p.0; next = omega (arith, p.1); small = omega (arith, p.1, front-most c.args.points c.args.objectives c.args.n c.args.cut) }

@@ -39,25 +39,40 @@ put_word-a-requires c =
 pub put_bytes-b-requires : goal.put_bytes-b-requires
 put_bytes-b-requires c =
     rest-room values_word (values_text c.args.values.now ++ (model_word ++ (decimal c.args.model ++ (10 ∷ []))))
-    (after-place c.args.out.now c.args.place c.args.values.now c.args.model c.requires.in_bounds c.requires.few (c.put_word-a.ensures.left, c.put_word-a.ensures.next))
+    (after-place c.args.out.now c.args.place c.args.values.now c.args.model c.requires.in_bounds c.requires.few
+    (c.put_word-a.ensures.left, c.put_word-a.ensures.next))
 
 pub put_values-c-requires : goal.put_values-c-requires
 put_values-c-requires c =
     rest-room (values_text c.args.values.now) (model_word ++ (decimal c.args.model ++ (10 ∷ [])))
-    (after-word c.args.out.now c.args.place c.args.values.now c.args.model c.requires.in_bounds c.requires.few (c.put_word-a.ensures.left, c.put_word-a.ensures.next) (c.put_bytes-b.ensures.left, c.put_bytes-b.ensures.next))
+    (after-word c.args.out.now c.args.place c.args.values.now c.args.model c.requires.in_bounds c.requires.few
+    (c.put_word-a.ensures.left, c.put_word-a.ensures.next)
+    (c.put_bytes-b.ensures.left, c.put_bytes-b.ensures.next))
 
 pub put_word-d-requires : goal.put_word-d-requires
 put_word-d-requires c =
     rest-room (model_word ++ decimal c.args.model) (10 ∷ [])
-    (after-values c.args.out.now c.args.place c.args.values.now c.args.model c.requires.in_bounds c.requires.few (c.put_word-a.ensures.left, c.put_word-a.ensures.next) (c.put_bytes-b.ensures.left, c.put_bytes-b.ensures.next) (c.put_values-c.ensures.left, c.put_values-c.ensures.next))
+    (after-values c.args.out.now c.args.place c.args.values.now c.args.model c.requires.in_bounds c.requires.few
+    (c.put_word-a.ensures.left, c.put_word-a.ensures.next)
+    (c.put_bytes-b.ensures.left, c.put_bytes-b.ensures.next)
+    (c.put_values-c.ensures.left, c.put_values-c.ensures.next))
 
 pub put_byte-requires : goal.put_byte-requires
 put_byte-requires c =
     rest-room-all
-    (after-model c.args.out.now c.args.place c.args.values.now c.args.model c.requires.in_bounds c.requires.few (c.put_word-a.ensures.left, c.put_word-a.ensures.next) (c.put_bytes-b.ensures.left, c.put_bytes-b.ensures.next) (c.put_values-c.ensures.left, c.put_values-c.ensures.next) (c.put_word-d.ensures.left, c.put_word-d.ensures.next))
+    (after-model c.args.out.now c.args.place c.args.values.now c.args.model c.requires.in_bounds c.requires.few
+    (c.put_word-a.ensures.left, c.put_word-a.ensures.next)
+    (c.put_bytes-b.ensures.left, c.put_bytes-b.ensures.next)
+    (c.put_values-c.ensures.left, c.put_values-c.ensures.next)
+    (c.put_word-d.ensures.left, c.put_word-d.ensures.next))
 
 pub returns : goal.returns
 returns c =
     let r =
-    after-model c.args.out.now c.args.place c.args.values.now c.args.model c.requires.in_bounds c.requires.few (c.put_word-a.ensures.left, c.put_word-a.ensures.next) (c.put_bytes-b.ensures.left, c.put_bytes-b.ensures.next) (c.put_values-c.ensures.left, c.put_values-c.ensures.next) (c.put_word-d.ensures.left, c.put_word-d.ensures.next) in
-    let p = rest-put-all r (c.put_byte.ensures.left, c.put_byte.ensures.next) in record { left = p.0; next = omega (arith, p.1); small = omega (arith, p.1, point-most c.args.place c.args.values.now c.args.model c.requires.few) }
+    after-model c.args.out.now c.args.place c.args.values.now c.args.model c.requires.in_bounds c.requires.few
+    (c.put_word-a.ensures.left, c.put_word-a.ensures.next)
+    (c.put_bytes-b.ensures.left, c.put_bytes-b.ensures.next)
+    (c.put_values-c.ensures.left, c.put_values-c.ensures.next)
+    (c.put_word-d.ensures.left, c.put_word-d.ensures.next) in
+    let p = rest-put-all r (c.put_byte.ensures.left, c.put_byte.ensures.next) in
+    record { left = p.0; next = omega (arith, p.1); small = omega (arith, p.1, point-most c.args.place c.args.values.now c.args.model c.requires.few) }

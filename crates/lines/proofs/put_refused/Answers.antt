@@ -34,10 +34,15 @@ put_word-b-requires c =
 pub put_byte-requires : goal.put_byte-requires
 put_byte-requires c =
     rest-room-all
-    (after-statement c.args.out.now c.args.number c.args.statement c.requires (c.put_word-a.ensures.left, c.put_word-a.ensures.next) (c.put_word-b.ensures.left, c.put_word-b.ensures.next))
+    (after-statement c.args.out.now c.args.number c.args.statement c.requires
+    (c.put_word-a.ensures.left, c.put_word-a.ensures.next)
+    (c.put_word-b.ensures.left, c.put_word-b.ensures.next))
 
 pub returns : goal.returns
 returns c =
     let r =
-    after-statement c.args.out.now c.args.number c.args.statement c.requires (c.put_word-a.ensures.left, c.put_word-a.ensures.next) (c.put_word-b.ensures.left, c.put_word-b.ensures.next) in
-    let p = rest-put-all r (c.put_byte.ensures.left, c.put_byte.ensures.next) in record { left = p.0; next = omega (arith, p.1); small = omega (arith, p.1, refused-most c.args.number c.args.statement) }
+    after-statement c.args.out.now c.args.number c.args.statement c.requires
+    (c.put_word-a.ensures.left, c.put_word-a.ensures.next)
+    (c.put_word-b.ensures.left, c.put_word-b.ensures.next) in
+    let p = rest-put-all r (c.put_byte.ensures.left, c.put_byte.ensures.next) in
+    record { left = p.0; next = omega (arith, p.1); small = omega (arith, p.1, refused-most c.args.number c.args.statement) }
