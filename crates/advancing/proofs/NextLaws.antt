@@ -22,7 +22,7 @@ use Rattle.capping.specs.Caps.{vec, less, at, row, no_trade, Within, Fresh}
 use Rattle.capping.proofs.OrderLaws.{lex-up, lex-mono}
 use Rattle.seeking.specs.declared.stocks.Stock.{Stock}
 use Rattle.seeking.specs.Stocks.{Among, Least}
-use Rattle.seeking.specs.Gathers.{Fit, Known, Gathers}
+use Rattle.seeking.specs.Gathers.{Fit, Known, Found, Gathers}
 use Rattle.seeking.proofs.StockLaws.{lex-through, fresh-down, free-old, free_new, set-cases}
 use Rattle.lowering.specs.Smallest.{Smallest}
 use Rattle.advancing.specs.Next.{AtMost, IsNext, Ended}
@@ -53,12 +53,14 @@ smallest-same n W U a f g s = record { wanted = f (bit a) s.wanted; fits = s.fit
 
 -- ---- Sifted
 
-module _ (k : ℕ) (listed points₀ : List Trade) (c₀ : ℕ) where
+module _ {K : ℕ} (k : ℕ) (listed points₀ : List (Trade K)) (c₀ : ℕ) where
   -- the last of c + 1 trades goes to the place of one that is not fresh
-  pub sifted-drop : (points : List Trade) (c j : ℕ) → Sifted k listed points₀ c₀ points (c + 1) → j < c + 1 → j < length points → (Fresh k listed (length listed) (row points j) → ⊥)
-      → Sifted k listed points₀ c₀ (set points j (get_or points c no_trade)) c
-  sifted-drop points c j s jl jp stale =
-      record {
+  pub sifted-drop : (points : List (Trade K)) (c j : ℕ) (x y : Trade K) → x ≡ get_or points j no_trade → y ≡ get_or points c no_trade
+      → Sifted k listed points₀ c₀ points (c + 1) → j < c + 1 → j < length points → (Fresh k listed (length listed) (at x.costs) → ⊥)
+      → Sifted k listed points₀ c₀ (set points j y) c
+  sifted-drop points c j x y here there s jl jp n =
+      subst (λ (t : Trade K). Sifted k listed points₀ c₀ (set points j t) c) (sym there)
+      (record {
         fewer = omega (arith, s.fewer);
         came = λ u z. set-cases k (get_or points c no_trade) points j jp (Among points₀ c₀) u (λ e. s.came c (omega arith)) (λ e. s.came u (omega arith));
         kept = λ h fr y. s.kept h fr (λ v z.
@@ -68,13 +70,16 @@ module _ (k : ℕ) (listed points₀ : List Trade) (c₀ : ℕ) where
             let w : v ≡ c = omega (arith, z, q) in
             subst (λ (r : ℕ). Within k (row points r) h → ⊥) (sym w) (free_new k (get_or points c no_trade) points j jp h (y j (omega (arith, e, w)))))
             (lt-or v c)) (eq-or v j));
-      }
+      })
+    where
+      stale : Fresh k listed (length listed) (row points j) → ⊥
+      stale = subst (λ (t : Trade K). Fresh k listed (length listed) (at t.costs) → ⊥) here n
 
 -- ---- Stocked
 
-module _ (problem : Problem) where
+module _ {K : ℕ} (problem : Problem K) where
   -- nothing comes before 0: the stock to begin with
-  pub stocked-empty : (listed points : List Trade) (top : List ℕ) → ((i : ℕ) → i < problem.count → get_or top i 0 ≡ 0)
+  pub stocked-empty : (listed points : List (Trade K)) (top : List ℕ) → ((i : ℕ) → i < problem.count → get_or top i 0 ≡ 0)
       → Stocked problem listed points (record { count = 0; limit = Some top })
   stocked-empty listed points top e =
       record {
@@ -83,7 +88,7 @@ module _ (problem : Problem) where
       }
 
   -- a trade more is listed
-  pub stocked-more : (listed listed' points : List Trade) (stock : Stock) → length listed ≤ length listed'
+  pub stocked-more : (listed listed' points : List (Trade K)) (stock : Stock K) → length listed ≤ length listed'
       → ((q : ℕ) → q < length listed → get_or listed' q no_trade ≡ get_or listed q no_trade)
       → Stocked problem listed points stock → Stocked problem listed' points stock
   stocked-more listed listed' points stock l e s =
@@ -91,12 +96,13 @@ module _ (problem : Problem) where
         held = s.held;
         all = λ x u. s.all x (record {
           meets = u.meets;
-          fresh = λ q z b. u.fresh q (omega arith) (subst (λ (t : Trade). Within problem.count (at t.costs) (vec problem (bit x))) (sym (e q z)) b);
+          fresh = λ q z b. u.fresh q (omega arith) (subst (λ (t : Trade K). Within problem.count (at t.costs) (vec problem (bit x))) (sym (e q z)) b);
         });
       }
 
-  module _ (listed : List Trade) where
-    pub stocked-sifted : (points : List Trade) (stock : Stock) (points' : List Trade) (stock' : Stock) → stock'.count ≤ length points' → stock'.limit ≡ stock.limit
+  module _ (listed : List (Trade K)) where
+    pub stocked-sifted : (points : List (Trade K)) (stock : Stock K) (points' : List (Trade K)) (stock' : Stock K)
+        → stock'.count ≤ length points' → stock'.limit ≡ stock.limit
         → Sifted problem.count listed points stock.count points' stock'.count → Stocked problem listed points stock → Stocked problem listed points' stock'
     stocked-sifted points stock points' stock' rm same f s =
         record {
@@ -105,13 +111,14 @@ module _ (problem : Problem) where
             each = λ u z. let a = f.came u z in subst (Known problem) (sym a.here) (s.held.each a.place a.inside);
             limited = λ top is u z y.
                 let a = f.came u z in
-                s.held.limited top (sym same ∙ is) a.place a.inside (subst (λ (t : Trade). less problem.count 0 (at top) (at t.costs)) a.here y);
+                s.held.limited top (sym same ∙ is) a.place a.inside (subst (λ (t : Trade K). less problem.count 0 (at top) (at t.costs)) a.here y);
           };
           all = λ x u fr. let past = s.all x u (f.kept (vec problem (bit x)) u.fresh fr) in record { top = past.top; is = same ∙ past.is; behind = past.behind };
         }
 
     -- a trade is left, or none and there was no limit
-    pub ready-left : (points : List Trade) (stock : Stock) (next : Option Trade) → Stocked problem listed points stock → Chosen problem.count listed points stock.count next
+    pub ready-left : (points : List (Trade K)) (stock : Stock K) (next : Option (Trade K)) → Stocked problem listed points stock
+        → Chosen problem.count listed points stock.count next
         → (next ≡ None → stock.limit ≡ None) → Ready problem listed points stock next
     ready-left points stock next s h f =
         record {
@@ -123,7 +130,7 @@ module _ (problem : Problem) where
           chosen = h;
         }
 
-    module _ (p : Part) (blank : (v : ℕ) → of p v ≡ 2) (points₀ points : List Trade) (stock : Stock)
+    module _ (p : Part) (blank : (v : ℕ) → of p v ≡ 2) (points₀ points : List (Trade K)) (stock : Stock K)
         (b : Gathers problem listed p points₀ (record { count = 0; limit = None }) points stock) where
       gathered : Stocked problem listed points stock
       gathered =
@@ -140,16 +147,21 @@ module _ (problem : Problem) where
             chosen = z;
           }
 
-      pub ready-some : (j : ℕ) → j < stock.count → Least problem.count points stock.count j → Ready problem listed points stock (Some (get_or points j no_trade))
-      ready-some j z le =
-          record { stocked = gathered; none = λ e. cc; chosen = record { place = j; inside = z; here = refl; least = le; fresh = (b.held.each j z).fresh } }
+      pub ready-some : (j : ℕ) (trade : Trade K) → trade ≡ get_or points j no_trade → j < stock.count → Least problem.count points stock.count j
+          → Ready problem listed points stock (Some trade)
+      ready-some j trade e z le =
+          record {
+            stocked = gathered;
+            none = λ e. cc;
+            chosen = record { place = j; inside = z; here = e; least = le; fresh = (subst (Found problem listed) (sym e) (b.held.each j z)).fresh };
+          }
 
     -- ---- Next
 
-    pub next-none : (points : List Trade) (stock : Stock) → Ready problem listed points stock None → Ended problem listed
+    pub next-none : (points : List (Trade K)) (stock : Stock K) → Ready problem listed points stock None → Ended problem listed
     next-none points stock r x _ u = r.none refl x u
 
-    module _ (points : List Trade) (stock : Stock) (trade : Trade) (r : Ready problem listed points stock (Some trade)) where
+    module _ (points : List (Trade K)) (stock : Stock K) (trade : Trade K) (r : Ready problem listed points stock (Some trade)) where
       h : Pick problem.count listed points stock.count trade
       h = r.chosen
 
@@ -159,7 +171,7 @@ module _ (problem : Problem) where
       next-least : (x : ℕ) → Fit problem listed (bit x) → less problem.count 0 (vec problem (bit x)) (at trade.costs) → ⊥
       next-least x u y =
           let v = vec problem (bit x) in
-          let z : less problem.count 0 v (row points h.place) = subst (λ (t : Trade). less problem.count 0 v (at t.costs)) h.here y in
+          let z : less problem.count 0 v (row points h.place) = subst (λ (t : Trade K). less problem.count 0 v (at t.costs)) h.here y in
           let past = r.stocked.all x u (λ q i b. h.least q i (lex-mono problem.count 0 problem.count (row points q) v (row points h.place) (omega arith) b z)) in
           past.behind (lex-through problem.count 0 v (row points h.place) (at past.top) z (r.stocked.held.limited past.top past.is h.place h.inside))
 

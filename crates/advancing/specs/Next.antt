@@ -9,13 +9,13 @@ use Rattle.seeking.specs.Stocks.{Same}
 use Rattle.seeking.specs.Gathers.{Fit}
 
 -- x meets the rows, and costs at most `costs` by each objective.
-pub record AtMost (problem : Problem) (costs : List ℕ) (x : ℕ → ℕ) : Type 0 where
+pub record AtMost {K : ℕ} (problem : Problem K) (costs : List ℕ) (x : ℕ → ℕ) : Type 0 where
   pub meets : Meets problem.rows x
   pub below : Below problem.count costs (vec problem x)
 
 -- The trade's vector is the least, first objective first, among those of assignments that meet the rows and are weakly dominated by no listed
 -- trade, and its number is the smallest of an assignment that meets the rows and has exactly that vector.
-pub record IsNext (problem : Problem) (listed : List Trade) (trade : Trade) : Type 0 where
+pub record IsNext {K : ℕ} (problem : Problem K) (listed : List (Trade K)) (trade : Trade K) : Type 0 where
   pub fits : trade.model < 2 ^ problem.rows.n
   pub fit : Fit problem listed (bit trade.model)
   pub value : Same problem.count (vec problem (bit trade.model)) (at trade.costs)
@@ -23,10 +23,10 @@ pub record IsNext (problem : Problem) (listed : List Trade) (trade : Trade) : Ty
   pub first : (x : ℕ) → x < 2 ^ problem.rows.n → Meets problem.rows (bit x) → Same problem.count (vec problem (bit x)) (at trade.costs) → trade.model ≤ x
 
 -- No assignment meets the rows and is weakly dominated by no listed trade.
-abbrev pub Ended : Problem → List Trade → Type 0
+abbrev pub Ended : {K : ℕ} → Problem K → List (Trade K) → Type 0
 Ended problem listed = (x : ℕ) → x < 2 ^ problem.rows.n → Fit problem listed (bit x) → ⊥
 
 -- The next trade, or that there is none.
-abbrev pub Next : Problem → List Trade → Option Trade → Type 0
+abbrev pub Next : {K : ℕ} → Problem K → List (Trade K) → Option (Trade K) → Type 0
 Next problem listed (Some trade) = IsNext problem listed trade
 Next problem listed None = Ended problem listed

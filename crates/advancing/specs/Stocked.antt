@@ -9,18 +9,18 @@ use Rattle.seeking.specs.Stocks.{Accounted, Among, Least}
 use Rattle.seeking.specs.Gathers.{Fit, Known, Held}
 
 -- Every assignment that meets the rows and is weakly dominated by no listed trade is accounted for by the gathered ones and the limit.
-pub record Stocked (problem : Problem) (listed points : List Trade) (stock : Stock) : Type 0 where
+pub record Stocked {K : ℕ} (problem : Problem K) (listed points : List (Trade K)) (stock : Stock K) : Type 0 where
   pub held : Held (Known problem) problem.count points stock
   pub all : (x : ℕ) → Fit problem listed (bit x) → Accounted problem.count points stock (vec problem (bit x))
 
 -- What taking out trades leaves: trades of the stock, and what dominated something fresh of the listed ones.
-pub record Sifted (k : ℕ) (listed points : List Trade) (c : ℕ) (points' : List Trade) (c' : ℕ) : Type 0 where
+pub record Sifted {K : ℕ} (k : ℕ) (listed points : List (Trade K)) (c : ℕ) (points' : List (Trade K)) (c' : ℕ) : Type 0 where
   pub fewer : c' ≤ c
   pub came : (u : ℕ) → u < c' → Among points c (get_or points' u no_trade)
   pub kept : (h : ℕ → ℕ) → Fresh k listed (length listed) h → Fresh k points' c' h → Fresh k points c h
 
 -- The trade is a least of the first c, and no listed one weakly dominates it.
-pub record Pick (k : ℕ) (listed points : List Trade) (c : ℕ) (trade : Trade) : Type 0 where
+pub record Pick {K : ℕ} (k : ℕ) (listed points : List (Trade K)) (c : ℕ) (trade : Trade K) : Type 0 where
   pub place : ℕ
   pub inside : place < c
   pub here : trade ≡ get_or points place no_trade
@@ -28,12 +28,12 @@ pub record Pick (k : ℕ) (listed points : List Trade) (c : ℕ) (trade : Trade)
   pub fresh : Fresh k listed (length listed) (at trade.costs)
 
 -- The same, or that there are none.
-abbrev pub Chosen : ℕ → List Trade → List Trade → ℕ → Option Trade → Type 0
+abbrev pub Chosen : {K : ℕ} → ℕ → List (Trade K) → List (Trade K) → ℕ → Option (Trade K) → Type 0
 Chosen k listed points c (Some trade) = Pick k listed points c trade
 Chosen k listed points c None = c ≡ 0
 
 -- The same of a stock, where none is chosen only if nothing is fit.
-pub record Ready (problem : Problem) (listed points : List Trade) (stock : Stock) (next : Option Trade) : Type 0 where
+pub record Ready {K : ℕ} (problem : Problem K) (listed points : List (Trade K)) (stock : Stock K) (next : Option (Trade K)) : Type 0 where
   pub stocked : Stocked problem listed points stock
   pub none : next ≡ None → (x : ℕ) → Fit problem listed (bit x) → ⊥
   pub chosen : Chosen problem.count listed points stock.count next

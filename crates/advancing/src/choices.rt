@@ -7,23 +7,28 @@ use seeking::Stock;
 
 // A trade, or none where none is left, and the stock.
 #[derive(Clone, Copy, Debug, PartialEq, Eq)]
-pub struct Advance {
-    pub next: Option<Trade>,
-    pub stock: Stock,
+pub struct Advance<const K: usize> {
+    pub next: Option<Trade<K>>,
+    pub stock: Stock<K>,
 }
 
 // Takes out the least gathered trade as long as a listed one weakly dominates it, and chooses the one after these.
-fn sift(problem: &Problem<'_>, listed: &[Trade], points: &mut [Trade], stock: Stock) -> Advance
+fn sift<const K: usize>(
+    problem: &Problem<'_, K>,
+    listed: &[Trade<K>],
+    points: &mut [Trade<K>],
+    stock: Stock<K>,
+) -> Advance<K>
     requires { stock.count ≤ length points.old }
-    ensures sifted { Sifted problem.now.count listed.now points.old stock.count points.new result.stock.count }
-    ensures limit { result.stock.limit ≡ stock.limit }
+    ensures sifted { Sifted problem.now.count listed.now points.old stock.entry.count points.new result.stock.count }
+    ensures limit { result.stock.limit ≡ stock.entry.limit }
     ensures chosen { Chosen problem.now.count listed.now points.new result.stock.count result.next }
 {
     for last in (0..stock.count).rev() {
         let count = last + 1;
-        let j = seeking::least(problem, &points[..count]);
+        let j = seeking::least(problem.count, &points[..count]);
         let trade = points[j];
-        if seeking::fresh(problem, &trade.costs, listed) {
+        if seeking::fresh(problem.count, &trade.costs, listed) {
             return Advance {
                 next: Some(trade),
                 stock: Stock {
@@ -44,7 +49,11 @@ fn sift(problem: &Problem<'_>, listed: &[Trade], points: &mut [Trade], stock: St
 }
 
 // Gathers anew, by one tree, and chooses.
-fn gather(problem: &Problem<'_>, listed: &[Trade], points: &mut [Trade]) -> Advance
+fn gather<const K: usize>(
+    problem: &Problem<'_, K>,
+    listed: &[Trade<K>],
+    points: &mut [Trade<K>],
+) -> Advance<K>
     requires { 1 ≤ length points.old }
     ensures { Ready problem.now listed.now points.new result.stock result.next }
 {
@@ -57,7 +66,7 @@ fn gather(problem: &Problem<'_>, listed: &[Trade], points: &mut [Trade]) -> Adva
     if stock.count == 0 {
         return Advance { next: None, stock };
     }
-    let j = seeking::least(problem, &points[..stock.count]);
+    let j = seeking::least(problem.count, &points[..stock.count]);
     Advance {
         next: Some(points[j]),
         stock,
@@ -65,12 +74,12 @@ fn gather(problem: &Problem<'_>, listed: &[Trade], points: &mut [Trade]) -> Adva
 }
 
 // Chooses from the stock; where it has none left but there was a limit, gathers anew.
-pub fn choose(
-    problem: &Problem<'_>,
-    listed: &[Trade],
-    points: &mut [Trade],
-    stock: Stock,
-) -> Advance
+pub fn choose<const K: usize>(
+    problem: &Problem<'_, K>,
+    listed: &[Trade<K>],
+    points: &mut [Trade<K>],
+    stock: Stock<K>,
+) -> Advance<K>
     requires room { 1 ≤ length points.old }
     requires stocked { Stocked problem.now listed.now points.old stock }
     ensures { Ready problem.now listed.now points.new result.stock result.next }

@@ -23,7 +23,7 @@ use forcing::Goal;
 use seeking::Stock;
 
 // The smallest number of an assignment that meets the rows and costs at most `costs`, where `model` is the number of one.
-fn witness(problem: &Problem<'_>, costs: &Vector, model: u64) -> u64
+fn witness<const K: usize>(problem: &Problem<'_, K>, costs: &Vector<K>, model: u64) -> u64
     requires { AtMost problem.now costs.now (bit model) × (model < 2 ^ problem.now.rows.n) }
     ensures { Smallest problem.now.rows.n (AtMost problem.now costs.now) result }
 {
@@ -37,20 +37,20 @@ fn witness(problem: &Problem<'_>, costs: &Vector, model: u64) -> u64
 
 // The trade after the listed ones: its vector and its witness. In `points` are the gathered ones, before and after.
 // Rules out: a vector that a listed trade weakly dominates; a later vector; a witness that is not the smallest.
-pub fn next_point(
-    problem: &Problem<'_>,
-    listed: &[Trade],
-    points: &mut [Trade],
-    stock: Stock,
-) -> Advance
+pub fn next_point<const K: usize>(
+    problem: &Problem<'_, K>,
+    listed: &[Trade<K>],
+    points: &mut [Trade<K>],
+    stock: Stock<K>,
+) -> Advance<K>
     requires room { 1 ≤ length points.old }
     requires stocked { Stocked problem.now listed.now points.old stock }
     ensures next { Next problem.now listed.now result.next }
     ensures stocked { Stocked problem.now listed.now points.new result.stock }
 {
-    let choice = choose(problem, listed, points, stock);
-    let Some(trade) = choice.next else {
-        return choice;
+    let Advance { next, stock } = choose(problem, listed, points, stock);
+    let Some(trade) = next else {
+        return Advance { next: None, stock };
     };
     let smallest = witness(problem, &trade.costs, trade.model);
     let next = Trade {
@@ -59,6 +59,6 @@ pub fn next_point(
     };
     Advance {
         next: Some(next),
-        stock: choice.stock,
+        stock,
     }
 }

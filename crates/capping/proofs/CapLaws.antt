@@ -15,7 +15,7 @@ use Rattle.charging.specs.Meets.{Meets}
 use Rattle.charging.proofs.SumLaws.{eq-or, span-le, hit-le}
 use Rattle.capping.specs.declared.trades.Trade.{Trade}
 use Rattle.capping.specs.declared.problems.Problem.{Problem}
-use Rattle.capping.specs.Caps.{less, at, row, Above, Below, Within, Fresh, Before, Seeks, Tight, Capped, Low, vec}
+use Rattle.capping.specs.Caps.{less, at, no_trade, Above, Below, Within, Fresh, Before, Seeks, Tight, Capped, Low, vec}
 use Rattle.capping.proofs.OrderLaws.{lex-le, lex-empty, lex-on}
 
 -- capping place j at c
@@ -69,12 +69,15 @@ module _ (k : ℕ) (lb : List ℕ) where
   tight-less cap Q R (Some _) g a = λ f u v q. a f u v (g f q)
   tight-less cap Q R None g a = λ f u v q. a f u v (g f q)
 
-  pub tight-more : (cap cap' : List ℕ) (trades : List Trade) (q : ℕ) (r : Option (List ℕ)) → Tight k lb cap (Fresh k trades q) (Some cap')
-      → Tight k lb cap' (λ (f : ℕ → ℕ). Within k (row trades q) f → ⊥) r → Tight k lb cap (Fresh k trades (q + 1)) r
-  tight-more cap cap' trades q r =
-      tight-then cap cap' (Fresh k trades q) (λ (f : ℕ → ℕ). Within k (row trades q) f → ⊥) (Fresh k trades (q + 1)) r (λ f h. (λ i z. h i (omega arith), h q (omega arith)))
+  pub tight-more : {K : ℕ} (cap cap' : List ℕ) (trades : List (Trade K)) (q : ℕ) (trade : Trade K) (r : Option (List ℕ))
+      → trade ≡ get_or trades q no_trade → Tight k lb cap (Fresh k trades q) (Some cap')
+      → Tight k lb cap' (λ (f : ℕ → ℕ). Within k (at trade.costs) f → ⊥) r → Tight k lb cap (Fresh k trades (q + 1)) r
+  tight-more {K} cap cap' trades q trade r e =
+      tight-then cap cap' (Fresh k trades q) (λ (f : ℕ → ℕ). Within k (at trade.costs) f → ⊥) (Fresh k trades (q + 1)) r
+      (λ f h. (λ i z. h i (omega arith), subst (λ (t : Trade K). Within k (at t.costs) f → ⊥) (sym e) (h q (omega arith))))
 
-  pub tight-off : (cap : List ℕ) (trades : List Trade) (q m : ℕ) → q ≤ m → Tight k lb cap (Fresh k trades q) None → Tight k lb cap (Fresh k trades m) None
+  pub tight-off : {K : ℕ} (cap : List ℕ) (trades : List (Trade K)) (q m : ℕ) → q ≤ m → Tight k lb cap (Fresh k trades q) None
+      → Tight k lb cap (Fresh k trades m) None
   tight-off cap trades q m z a = tight-less cap (Fresh k trades q) (Fresh k trades m) None (λ f h i y. h i (omega arith)) a
 
 pub cost-le : (n : ℕ) (costs : List Cost) (x : ℕ → ℕ) → Costs n costs → n ≤ 64 → cost costs x ≤ 2 ^ 40
@@ -83,7 +86,7 @@ cost-le n costs x c l =
     (λ v z. omega (arith, hit-le (x v) (dear costs v) (gap costs v), c.small v (omega (arith, c.long)))) in
     omega (arith, c.long)
 
-module _ (problem : Problem) (p : Part) where
+module _ {K : ℕ} (problem : Problem K) (p : Part) where
   -- no vector is above the caps that capping begins with
   pub capped-low : (lb cap : List ℕ) (Q : (ℕ → ℕ) → Type 0) (W : (ℕ → ℕ) → Type 0) (r : Option (List ℕ))
       → Low problem problem.count p lb → ((i : ℕ) → i < problem.count → get_or cap i 0 ≡ 2 ^ 40) → ((x : ℕ → ℕ) → W x → Meets problem.rows x × Q (vec problem x))
@@ -98,7 +101,7 @@ module _ (problem : Problem) (p : Part) where
       cases None t = λ x k w. t (vec problem x) (λ i l. o i l x k (ask x w).0) (high x) (ask x w).1
 
   -- before the limit, then not dominated by what is listed, then by what is gathered
-  module _ (listed gathered : List Trade) (m : ℕ) (limit : Option (List ℕ)) (lb cap cap' : List ℕ)
+  module _ (listed gathered : List (Trade K)) (m : ℕ) (limit : Option (List ℕ)) (lb cap cap' : List ℕ)
       (o : Low problem problem.count p lb) (wide : (i : ℕ) → i < problem.count → get_or cap i 0 ≡ 2 ^ 40)
       (one : Tight problem.count lb cap (Before problem.count limit) (Some cap')) where
     abbrev Two : (ℕ → ℕ) → Type 0

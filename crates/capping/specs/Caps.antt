@@ -7,7 +7,7 @@ use Rattle.capping.specs.declared.trades.Trade.{Trade}
 use Rattle.capping.specs.declared.problems.Problem.{Problem}
 
 -- The vector of x: number i is its cost by objective i.
-abbrev pub vec : Problem → (ℕ → ℕ) → ℕ → ℕ
+abbrev pub vec : {K : ℕ} → Problem K → (ℕ → ℕ) → ℕ → ℕ
 vec problem x i = cost (costs_of problem.rows.n problem.costs.now i) x
 
 -- f comes before g by the first of the m places from j on where they differ.
@@ -20,14 +20,14 @@ abbrev pub at : List ℕ → ℕ → ℕ
 at l i = get_or l i 0
 
 -- What stands past the end of a list of trades.
-abbrev pub no_trade : Trade
+abbrev pub no_trade : {K : ℕ} → Trade K
 no_trade = record { costs = []; model = 0 }
 
 -- The vector of trade j, and its assignment.
-abbrev pub row : List Trade → ℕ → ℕ → ℕ
+abbrev pub row : {K : ℕ} → List (Trade K) → ℕ → ℕ → ℕ
 row trades j = at (get_or trades j no_trade).costs
 
-abbrev pub model : List Trade → ℕ → ℕ
+abbrev pub model : {K : ℕ} → List (Trade K) → ℕ → ℕ
 model trades j = (get_or trades j no_trade).model
 
 -- The first k places of f are at least those of lb.
@@ -43,7 +43,7 @@ abbrev pub Within : ℕ → (ℕ → ℕ) → (ℕ → ℕ) → Type 0
 Within k f h = (i : ℕ) → i < k → f i ≤ h i
 
 -- None of the first m trades weakly dominates f.
-abbrev pub Fresh : ℕ → List Trade → ℕ → (ℕ → ℕ) → Type 0
+abbrev pub Fresh : {K : ℕ} → ℕ → List (Trade K) → ℕ → (ℕ → ℕ) → Type 0
 Fresh k trades m f = (q : ℕ) → q < m → Within k (row trades q) f → ⊥
 
 -- f comes before the limit, if there is one.
@@ -51,13 +51,13 @@ abbrev pub Before : ℕ → Option (List ℕ) → (ℕ → ℕ) → Type 0
 Before k limit f = (top : List ℕ) → limit ≡ Some top → less k 0 f (at top)
 
 -- Before the limit, and weakly dominated by no listed trade and by none of the first c gathered ones.
-pub record Sought (k : ℕ) (listed gathered : List Trade) (c : ℕ) (limit : Option (List ℕ)) (f : ℕ → ℕ) : Type 0 where
+pub record Sought {K : ℕ} (k : ℕ) (listed gathered : List (Trade K)) (c : ℕ) (limit : Option (List ℕ)) (f : ℕ → ℕ) : Type 0 where
   pub before : Before k limit f
   pub fresh : Fresh k listed (length listed) f
   pub new : Fresh k gathered c f
 
 -- x meets the rows, and its vector is sought.
-pub record Seeks (problem : Problem) (listed gathered : List Trade) (c : ℕ) (limit : Option (List ℕ)) (x : ℕ → ℕ) : Type 0 where
+pub record Seeks {K : ℕ} (problem : Problem K) (listed gathered : List (Trade K)) (c : ℕ) (limit : Option (List ℕ)) (x : ℕ → ℕ) : Type 0 where
   pub meets : Meets problem.rows x
   pub sought : Sought problem.count listed gathered c limit (vec problem x)
 
@@ -67,10 +67,10 @@ Tight k lb cap Q (Some cap') = (f : ℕ → ℕ) → Above k lb f → Below k ca
 Tight k lb cap Q None = (f : ℕ → ℕ) → Above k lb f → Below k cap f → Q f → ⊥
 
 -- Caps for what is wanted below p, or that there is none.
-abbrev pub Capped : Problem → ((ℕ → ℕ) → Type 0) → Part → Option (List ℕ) → Type 0
+abbrev pub Capped : {K : ℕ} → Problem K → ((ℕ → ℕ) → Type 0) → Part → Option (List ℕ) → Type 0
 Capped problem W p (Some cap) = (x : ℕ → ℕ) → Completes problem.rows.n (of p) x → W x → Below problem.count cap (vec problem x)
 Capped problem W p None = (x : ℕ → ℕ) → Completes problem.rows.n (of p) x → W x → ⊥
 
 -- lb is below the vector of every completion of p that meets the rows, in the first j places.
-abbrev pub Low : Problem → ℕ → Part → List ℕ → Type 0
+abbrev pub Low : {K : ℕ} → Problem K → ℕ → Part → List ℕ → Type 0
 Low problem j p lb = (i : ℕ) → i < j → (x : ℕ → ℕ) → Completes problem.rows.n (of p) x → Meets problem.rows x → get_or lb i 0 ≤ vec problem x i

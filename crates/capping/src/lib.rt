@@ -1,7 +1,7 @@
 // Capping (R3 and R4): caps on the objectives from lower bounds, a limit, the listed trades and the gathered ones.
 //
 // Problem           rows, objectives, ceilings and an order, lent by the caller
-// Trade, Vector     four costs by value, and the assignment that has them
+// Trade, Vector     K costs by value, and the assignment that has them
 // caps(.., p)       caps for all that is wanted below p; none where nothing is
 //
 // Read specs/Caps.antt; proofs/CapLaws.antt has the argument.
@@ -20,9 +20,14 @@ pub use problems::Problem;
 pub use trades::{Trade, Vector};
 
 // R3: the caps that the limit gives, if there is one.
-fn ahead(k: usize, low: &Vector, limit: Option<Vector>, cap: Vector) -> Option<Vector>
-    requires { k ≤ 4 }
-    ensures { Tight k low.now cap (Before k limit) result }
+fn ahead<const K: usize>(
+    k: usize,
+    low: &Vector<K>,
+    limit: Option<Vector<K>>,
+    cap: Vector<K>,
+) -> Option<Vector<K>>
+    requires { k ≤ K }
+    ensures { Tight k low.now cap.entry (Before k limit.entry) result }
 {
     let Some(top) = limit else {
         return Some(cap);
@@ -42,9 +47,14 @@ fn ahead(k: usize, low: &Vector, limit: Option<Vector>, cap: Vector) -> Option<V
 }
 
 // R4: the cap that one trade gives, where `low` leaves it one place to be beaten at.
-fn point(k: usize, low: &Vector, costs: &Vector, cap: Vector) -> Option<Vector>
-    requires { k ≤ 4 }
-    ensures { Tight k low.now cap (λ (f : ℕ → ℕ). Within k (at costs.now) f → ⊥) result }
+fn point<const K: usize>(
+    k: usize,
+    low: &Vector<K>,
+    costs: &Vector<K>,
+    cap: Vector<K>,
+) -> Option<Vector<K>>
+    requires { k ≤ K }
+    ensures { Tight k low.now cap.entry (λ (f : ℕ → ℕ). Within k (at costs.now) f → ⊥) result }
 {
     let mut only: Option<usize> = None;
     // Kept by index: the place itself is what is sought.
@@ -63,9 +73,14 @@ fn point(k: usize, low: &Vector, costs: &Vector, cap: Vector) -> Option<Vector>
 }
 
 // R4, one trade after the other.
-fn points(k: usize, low: &Vector, trades: &[Trade], cap: Vector) -> Option<Vector>
-    requires { k ≤ 4 }
-    ensures { Tight k low.now cap (Fresh k trades.now (length trades.now)) result }
+fn points<const K: usize>(
+    k: usize,
+    low: &Vector<K>,
+    trades: &[Trade<K>],
+    cap: Vector<K>,
+) -> Option<Vector<K>>
+    requires { k ≤ K }
+    ensures { Tight k low.now cap.entry (Fresh k trades.now (length trades.now)) result }
 {
     let mut cap = cap;
     for trade in trades {
@@ -75,10 +90,10 @@ fn points(k: usize, low: &Vector, trades: &[Trade], cap: Vector) -> Option<Vecto
 }
 
 // Charged lower bounds.
-fn charges(problem: &Problem<'_>, p: Part) -> Vector
+fn charges<const K: usize>(problem: &Problem<'_, K>, p: Part) -> Vector<K>
     ensures { Low problem.now problem.now.count p result }
 {
-    let mut low = [0; 4];
+    let mut low = [0; K];
     let mut res = [0; Part::MOST];
     for i in 0..problem.count {
         low[i] = charging::charge(&problem.rows, problem.costs_of(i), p, &mut res);
@@ -87,18 +102,18 @@ fn charges(problem: &Problem<'_>, p: Part) -> Vector
 }
 
 // Caps for what is wanted below p.
-pub fn caps(
-    problem: &Problem<'_>,
-    listed: &[Trade],
-    gathered: &[Trade],
-    limit: Option<Vector>,
+pub fn caps<const K: usize>(
+    problem: &Problem<'_, K>,
+    listed: &[Trade<K>],
+    gathered: &[Trade<K>],
+    limit: Option<Vector<K>>,
     p: Part,
-) -> Option<Vector>
-    ensures { Capped problem.now (Seeks problem.now listed.now gathered.now (length gathered.now) limit) p result }
+) -> Option<Vector<K>>
+    ensures { Capped problem.now (Seeks problem.now listed.now gathered.now (length gathered.now) limit.entry) p result }
 {
     let k = problem.count;
     let low = charges(problem, p);
-    let cap = ahead(k, &low, limit, [Goal::NO_CAP; 4])?;
+    let cap = ahead(k, &low, limit, [Goal::NO_CAP; K])?;
     let cap = points(k, &low, listed, cap)?;
     points(k, &low, gathered, cap)
 }

@@ -57,7 +57,8 @@ member-at (x ∷ xs) (suc q) h = let m = member-at xs q (omega arith) in record 
 -- ---- Listing
 
 -- m points are listed: xs, which is how the front begins; the runs hold them, the rest as found; their trades are known.
-pub record Listing (ts rs : List ℤ) (problem : Problem) (vs : List ℤ) (ms : List ℕ) (m : ℕ) (vs' : List ℤ) (ms' : List ℕ) (listed : List Trade) : Type 0 where
+pub record Listing (ts rs : List ℤ) (problem : Problem 4) (vs : List ℤ) (ms : List ℕ) (m : ℕ)
+    (vs' : List ℤ) (ms' : List ℕ) (listed : List (Trade 4)) : Type 0 where
   pub xs : List Candidate
   pub begins : Begins (CandidateOf (meaning ts rs)) Smaller xs
   pub count : length xs ≡ m
@@ -66,18 +67,19 @@ pub record Listing (ts rs : List ℤ) (problem : Problem) (vs : List ℤ) (ms : 
   pub models : ms' ≡ models_left xs ms
   pub costs_are : (q i : ℕ) → q < m → i < problem.count → row listed q i ≡ vec problem (bit (get_or (models_of xs) q 0)) i
 
-pub listing_none : (ts rs : List ℤ) (problem : Problem) (vs : List ℤ) (ms : List ℕ) (listed : List Trade) → length listed ≡ 0 → Listing ts rs problem vs ms 0 vs ms listed
+pub listing_none : (ts rs : List ℤ) (problem : Problem 4) (vs : List ℤ) (ms : List ℕ) (listed : List (Trade 4)) → length listed ≡ 0
+    → Listing ts rs problem vs ms 0 vs ms listed
 unfolding values_of
 listing_none ts rs problem vs ms listed e =
     record { xs = []; begins = begins-none; count = refl; trades = e; values = refl; models = refl; costs_are = λ q i h l. absurd (omega arith) }
 
 -- the same by another number of points
-pub listing-as : {ts rs : List ℤ} {problem : Problem} {vs : List ℤ} {ms : List ℕ} {m r : ℕ} {vs' : List ℤ} {ms' : List ℕ} (trades : List Trade) → m ≡ r
-    → Listing ts rs problem vs ms m vs' ms' (take m trades) → Listing ts rs problem vs ms r vs' ms' (take r trades)
+pub listing-as : {ts rs : List ℤ} {problem : Problem 4} {vs : List ℤ} {ms : List ℕ} {m r : ℕ} {vs' : List ℤ} {ms' : List ℕ} (trades : List (Trade 4))
+    → m ≡ r → Listing ts rs problem vs ms m vs' ms' (take m trades) → Listing ts rs problem vs ms r vs' ms' (take r trades)
 listing-as {ts} {rs} {problem} {vs} {ms} {m} {r} {vs'} {ms'} trades e l = subst (λ (k : ℕ). Listing ts rs problem vs ms k vs' ms' (take k trades)) e l
 
-module _ {ts rs : List ℤ} {problem : Problem} (nm : Normal ts rs problem.count problem.rows problem.costs.now)
-    {vs : List ℤ} {ms : List ℕ} {m : ℕ} {vs' : List ℤ} {ms' : List ℕ} {listed : List Trade} (l : Listing ts rs problem vs ms m vs' ms' listed) where
+module _ {ts rs : List ℤ} {problem : Problem 4} (nm : Normal ts rs problem.count problem.rows problem.costs.now)
+    {vs : List ℤ} {ms : List ℕ} {m : ℕ} {vs' : List ℤ} {ms' : List ℕ} {listed : List (Trade 4)} (l : Listing ts rs problem vs ms m vs' ms' listed) where
   abbrev I : Instance
   I = meaning ts rs
 
@@ -115,7 +117,7 @@ module _ {ts rs : List ℤ} {problem : Problem} (nm : Normal ts rs problem.count
   bits c p = subst (λ (j : ℕ). c.model < 2 ^ j) (sym nm.variables) p.feasible.bits
 
   -- ---- the next trade of the search comes next
-  module _ {trade : Trade} (x : IsNext problem listed trade) where
+  module _ {trade : Trade 4} (x : IsNext problem listed trade) where
     pub next-bits : trade.model < 2 ^ I.variables
     next-bits = subst (λ (j : ℕ). trade.model < 2 ^ j) nm.variables x.fits
 

@@ -72,15 +72,15 @@ models-more xs x ms m e h =
 
 -- ---- trades: one more
 
-pub record Added (listed listed' : List Trade) (trade : Trade) : Type 0 where
+pub record Added (listed listed' : List (Trade 4)) (trade : Trade 4) : Type 0 where
   pub many : length listed' ≡ length listed + 1
   pub old : (q : ℕ) → q < length listed → get_or listed' q no_trade ≡ get_or listed q no_trade
   pub new : get_or listed' (length listed) no_trade ≡ trade
 
-pub added : (listed : List Trade) (m : ℕ) (trade : Trade) → m < length listed → Added (take m listed) (take (m + 1) (set listed m trade)) trade
+pub added : (listed : List (Trade 4)) (m : ℕ) (trade : Trade 4) → m < length listed → Added (take m listed) (take (m + 1) (set listed m trade)) trade
 added listed m trade h = record { many = omega (arith, first, more, length-set listed m trade); old = λ q l. old q (omega (arith, first)); new = ap (λ (k : ℕ). get_or after k no_trade) first ∙ here }
   where
-    after : List Trade
+    after : List (Trade 4)
     after = take (m + 1) (set listed m trade)
 
     first : length (take m listed) ≡ m
@@ -99,8 +99,8 @@ added listed m trade h = record { many = omega (arith, first, more, length-set l
 
 -- ---- Listing
 
-module _ {ts rs : List ℤ} {problem : Problem} (nm : Normal ts rs problem.count problem.rows problem.costs.now)
-    {vs : List ℤ} {ms : List ℕ} {m : ℕ} {vs' : List ℤ} {ms' : List ℕ} {listed : List Trade} (l : Listing ts rs problem vs ms m vs' ms' listed) where
+module _ {ts rs : List ℤ} {problem : Problem 4} (nm : Normal ts rs problem.count problem.rows problem.costs.now)
+    {vs : List ℤ} {ms : List ℕ} {m : ℕ} {vs' : List ℤ} {ms' : List ℕ} {listed : List (Trade 4)} (l : Listing ts rs problem vs ms m vs' ms' listed) where
   abbrev I : Instance
   I = meaning ts rs
 
@@ -108,7 +108,7 @@ module _ {ts rs : List ℤ} {problem : Problem} (nm : Normal ts rs problem.count
   listed-length = values_length l.xs (λ x u. candidate-four x (l.begins.members x u))
 
   -- One point more: the next trade of the search, its values and its model stored.
-  module _ {trade : Trade} {listed' : List Trade} (x : IsNext problem listed trade) (p : Added listed listed' trade) where
+  module _ {trade : Trade 4} {listed' : List (Trade 4)} (x : IsNext problem listed trade) (p : Added listed listed' trade) where
     abbrev more : List Candidate
     more = l.xs ++ (candidate I trade.model ∷ [])
 
@@ -127,10 +127,10 @@ module _ {ts rs : List ℤ} {problem : Problem} (nm : Normal ts rs problem.count
       where
         by : Dec (q < m) → row listed' q i ≡ vec problem (bit (get_or (models_of more) q 0)) i
         by (yes u) =
-            ap (λ (t : Trade). at t.costs i) (p.old q (omega (arith, l.trades))) ∙ l.costs_are q i u j
+            ap (λ (t : Trade 4). at t.costs i) (p.old q (omega (arith, l.trades))) ∙ l.costs_are q i u j
             ∙ ap (λ (b : ℕ). vec problem (bit b) i) (sym (model-old q u))
         by (no u) =
-            ap (λ (r : ℕ). row listed' r i) here ∙ ap (λ (t : Trade). at t.costs i) p.new ∙ sym (x.value i j)
+            ap (λ (r : ℕ). row listed' r i) here ∙ ap (λ (t : Trade 4). at t.costs i) p.new ∙ sym (x.value i j)
             ∙ ap (λ (b : ℕ). vec problem (bit b) i) (sym (ap (λ (r : ℕ). get_or (models_of more) r 0) (here ∙ l.trades) ∙ model-new))
           where
             here : q ≡ length listed
@@ -166,7 +166,7 @@ module _ {ts rs : List ℤ} {problem : Problem} (nm : Normal ts rs problem.count
       all = take_all r l.xs (omega (arith, l.count))
 
   -- There is one more, and no room for it: the front goes on after the list.
-  pub lists-part : {trade : Trade} → IsNext problem listed trade → Lists ts rs m vs ms vs' ms' None
+  pub lists-part : {trade : Trade 4} → IsNext problem listed trade → Lists ts rs m vs ms vs' ms' None
   lists-part {trade} x =
       record {
         front = front_of I;
@@ -182,8 +182,8 @@ module _ {ts rs : List ℤ} {problem : Problem} (nm : Normal ts rs problem.count
 
 -- ---- what the search answered
 
-module _ {problem : Problem} {listed : List Trade} {next : Option Trade} (x : Next problem listed next) where
-  pub next-is : {trade : Trade} → next ≡ Some trade → IsNext problem listed trade
+module _ {problem : Problem 4} {listed : List (Trade 4)} {next : Option (Trade 4)} (x : Next problem listed next) where
+  pub next-is : {trade : Trade 4} → next ≡ Some trade → IsNext problem listed trade
   next-is e = subst (Next problem listed) e x
 
   pub next-not : next ≡ None → Ended problem listed

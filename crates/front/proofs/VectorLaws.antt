@@ -32,7 +32,7 @@ less-at (suc m) j p f g l h e d =
     first (yes u) = inr u
     first (no u) = inl (omega arith)
 
-module _ {ts rs : List ℤ} (problem : Problem) (nm : Normal ts rs problem.count problem.rows problem.costs.now) where
+module _ {ts rs : List ℤ} (problem : Problem 4) (nm : Normal ts rs problem.count problem.rows problem.costs.now) where
   -- The four values of an assignment, and its costs.
   abbrev pub four : ℕ → List ℤ
   four a = padded (vector (meaning ts rs) a)

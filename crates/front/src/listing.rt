@@ -6,9 +6,13 @@ ghost use Rattle.front.specs.Listing.{Lists};
 
 use advancing::next_point;
 use capping::{Problem, Trade};
+use instance::Instance;
 use judge::values_of;
 use points::Point;
 use seeking::Stock;
+
+// A trade has a cost for each objective that an instance may have.
+const COSTS: usize = Instance::MAX_OBJECTIVES;
 
 // Trades that one tree gathers: one more than a list has, so that a front that fits needs one tree.
 const GATHERED: usize = Point::MAX_POINTS as usize + 1;
@@ -17,7 +21,7 @@ const GATHERED: usize = Point::MAX_POINTS as usize + 1;
 pub fn list_points(
     terms: &[i32],
     rows: &[i64],
-    problem: &Problem<'_>,
+    problem: &Problem<'_, COSTS>,
     room: usize,
     values: &mut [i64],
     models: &mut [u64],
@@ -26,11 +30,11 @@ pub fn list_points(
     requires room { (room ≤ max_points) × (room * 4 ≤ length values.old) × (room ≤ length models.old) }
     ensures { Lists terms.now rows.now room values.old models.old values.new models.new result }
 {
-    let mut listed = [Trade::NONE; Point::MAX_POINTS as usize];
-    let mut points = [Trade::NONE; GATHERED];
+    let mut listed = [Trade::<COSTS>::NONE; Point::MAX_POINTS as usize];
+    let mut points = [Trade::<COSTS>::NONE; GATHERED];
     let mut stock = Stock {
         count: 0,
-        limit: Some([0; 4]),
+        limit: Some([0; COSTS]),
     };
     for m in 0..room {
         let advance = next_point(problem, &listed[..m], &mut points, stock);

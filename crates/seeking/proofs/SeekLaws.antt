@@ -30,7 +30,7 @@ use Rattle.seeking.proofs.StockLaws.{fresh-or, fresh-down, fresh-back}
 
 -- ---- What each rule of reduce may not lose
 
-module _ (problem : Problem) (listed gathered : List Trade) (c : ℕ) (limit : Option (List ℕ)) (p q : Part)
+module _ {K : ℕ} (problem : Problem K) (listed gathered : List (Trade K)) (c : ℕ) (limit : Option (List ℕ)) (p q : Part)
     (a : Leads problem.rows.n (Seeks problem listed gathered c limit) p q) where
   abbrev W : (ℕ → ℕ) → Type 0
   W = Seeks problem listed gathered c limit
@@ -59,23 +59,24 @@ past-or k (Some t) f =
 
 -- ---- Gathers
 
-module _ (problem : Problem) (listed : List Trade) where
+module _ {K : ℕ} (problem : Problem K) (listed : List (Trade K)) where
   -- what is fit is wanted or accounted for
-  want-or : (points : List Trade) (stock : Stock) (x : ℕ → ℕ) → Fit problem listed x
+  want-or : (points : List (Trade K)) (stock : Stock K) (x : ℕ → ℕ) → Fit problem listed x
       → Seeks problem listed points stock.count stock.limit x ⊎ Accounted problem.count points stock (vec problem x)
   want-or points stock x f =
       ⊎_elim
       (λ fr. ⊎_elim (λ p. inr (λ _. p)) (λ b. inl (record { meets = f.meets; sought = record { before = b; fresh = f.fresh; new = fr } })) (past-or problem.count stock.limit (vec problem x)))
       (λ z. inr (λ fr. absurd (z fr))) (fresh-or problem.count points stock.count (vec problem x))
 
-  module _ (p : Part) (points : List Trade) (stock : Stock) where
+  module _ (p : Part) (points : List (Trade K)) (stock : Stock K) where
     -- the stock stays: there is nothing wanted
     pub gathers-stays : Held (Found problem listed) problem.count points stock → Hopeless problem.rows.n (Seeks problem listed points stock.count stock.limit) p
         → Gathers problem listed p points stock points stock
     gathers-stays h f = record { held = h; some = λ s. s; all = λ x z u. ⊎_elim (λ y. absurd (f x z y)) (λ y. y) (want-or points stock x u); kept = λ _ y. y }
 
     module _ (q : Part) (a : Leads problem.rows.n (Seeks problem listed points stock.count stock.limit) p q) where
-      pub gathers-lead : (points' : List Trade) (stock' : Stock) → Gathers problem listed q points stock points' stock' → Gathers problem listed p points stock points' stock'
+      pub gathers-lead : (points' : List (Trade K)) (stock' : Stock K) → Gathers problem listed q points stock points' stock'
+          → Gathers problem listed p points stock points' stock'
       gathers-lead points' stock' b =
           record {
             held = b.held;
@@ -85,7 +86,7 @@ module _ (problem : Problem) (listed : List Trade) where
           }
 
       -- below a node: what is wanted is below its children
-      pub gathers-two : (v b : ℕ) (q₀ q₁ : Part) (points₀ : List Trade) (stock₀ : Stock) (points₁ : List Trade) (stock₁ : Stock)
+      pub gathers-two : (v b : ℕ) (q₀ q₁ : Part) (points₀ : List (Trade K)) (stock₀ : Stock K) (points₁ : List (Trade K)) (stock₁ : Stock K)
           → v < problem.rows.n → b < 2 → Put problem.rows.n q v b q₀ → Put problem.rows.n q v (1 - b) q₁
           → Gathers problem listed q₀ points stock points₀ stock₀ → Gathers problem listed q₁ points₀ stock₀ points₁ stock₁
           → Gathers problem listed p points stock points₁ stock₁
@@ -106,7 +107,8 @@ module _ (problem : Problem) (listed : List Trade) where
           }
 
 -- a complete part, whose vector is f
-module _ (problem : Problem) (listed : List Trade) (q : Part) (points : List Trade) (stock : Stock) (held : Held (Found problem listed) problem.count points stock) where
+module _ {K : ℕ} (problem : Problem K) (listed : List (Trade K)) (q : Part) (points : List (Trade K)) (stock : Stock K)
+    (held : Held (Found problem listed) problem.count points stock) where
   module _ (f : ℕ → ℕ) (o : Same problem.count f (vec problem (of q))) where
     under : (x : ℕ → ℕ) → Completes problem.rows.n (of q) x → Within problem.count f (vec problem x)
     under x z i j = omega (arith, o i j, cost-up problem.rows.n (of q) (costs_of problem.rows.n problem.costs.now i) (problem.priced.each i j) x z)
@@ -138,8 +140,9 @@ module _ (problem : Problem) (listed : List Trade) (q : Part) (points : List Tra
         fresh = fr;
       }
 
-  pub leaf-kept : (costs : List ℕ) (points' : List Trade) (stock' : Stock) → Same problem.count (at costs) (vec problem (of q)) → q.one < 2 ^ problem.rows.n
-      → Completes problem.rows.n (of q) (of q) → Meets problem.rows (of q) → Fresh problem.count listed (length listed) (at costs)
+  pub leaf-kept : (costs : List ℕ) (points' : List (Trade K)) (stock' : Stock K) → Same problem.count (at costs) (vec problem (of q))
+      → q.one < 2 ^ problem.rows.n → Completes problem.rows.n (of q) (of q) → Meets problem.rows (of q)
+      → Fresh problem.count listed (length listed) (at costs)
       → Keeps problem.count (record { costs = costs; model = q.one }) points stock points' stock' → Gathers problem listed q points stock points' stock'
   leaf-kept costs points' stock' o fi z mt fr kp =
       record {
@@ -157,7 +160,8 @@ module _ (problem : Problem) (listed : List Trade) (q : Part) (points : List Tra
 
 -- ---- reduce, over the gathered trades as a run of their own
 
-pub seeks-back : (problem : Problem) (listed points : List Trade) (stock : Stock) → stock.count ≤ length points → (x : ℕ → ℕ) → Seeks problem listed points stock.count stock.limit x
+pub seeks-back : {K : ℕ} (problem : Problem K) (listed points : List (Trade K)) (stock : Stock K) → stock.count ≤ length points → (x : ℕ → ℕ)
+    → Seeks problem listed points stock.count stock.limit x
     → Seeks problem listed (take stock.count points) (length (take stock.count points)) stock.limit x
 seeks-back problem listed points stock l x u =
     record {
@@ -165,7 +169,8 @@ seeks-back problem listed points stock l x u =
       sought = record { before = u.sought.before; fresh = u.sought.fresh; new = fresh-back points stock.count l problem.count (vec problem x) u.sought.new };
     }
 
-pub cuts-back : (problem : Problem) (listed points : List Trade) (stock : Stock) (p : Part) (r : Option Part) → stock.count ≤ length points
+pub cuts-back : {K : ℕ} (problem : Problem K) (listed points : List (Trade K)) (stock : Stock K) (p : Part) (r : Option Part)
+    → stock.count ≤ length points
     → Cuts problem.rows.n (Seeks problem listed (take stock.count points) (length (take stock.count points)) stock.limit) p r
     → Cuts problem.rows.n (Seeks problem listed points stock.count stock.limit) p r
 cuts-back problem listed points stock p r l =

@@ -42,7 +42,7 @@ within-or (suc k) f h =
     ⊎_elim (λ y. ⊎_elim (λ z. inr (λ u. omega (arith, z, u k (omega arith)))) (λ z. inl (λ i l. below_more (λ (v : ℕ). f v ≤ h v) k y z i (omega arith))) (lt-or (h k) (f k)))
     (λ y. inr (λ u. y (λ i l. u i (omega arith)))) (within-or k f h)
 
-pub fresh-or : (k : ℕ) (points : List Trade) (c : ℕ) (f : ℕ → ℕ) → Fresh k points c f ⊎ (Fresh k points c f → ⊥)
+pub fresh-or : {K : ℕ} (k : ℕ) (points : List (Trade K)) (c : ℕ) (f : ℕ → ℕ) → Fresh k points c f ⊎ (Fresh k points c f → ⊥)
 fresh-or k points zero f = inl (λ q l. absurd (not-suc-le-zero l))
 fresh-or k points (suc c) f =
     ⊎_elim (λ y. ⊎_elim (λ z. inr (λ u. u c (omega arith) z)) (λ z. inl (λ q l. below_more (λ (v : ℕ). Within k (row points v) f → ⊥) c y z q (omega arith)))
@@ -50,12 +50,12 @@ fresh-or k points (suc c) f =
     (λ y. inr (λ u. y (λ q l. u q (omega arith)))) (fresh-or k points c f)
 
 -- what dominates f dominates what f is at most
-pub fresh-down : (k : ℕ) (points : List Trade) (c : ℕ) (f h : ℕ → ℕ) → Within k f h → Fresh k points c h → Fresh k points c f
+pub fresh-down : {K : ℕ} (k : ℕ) (points : List (Trade K)) (c : ℕ) (f h : ℕ → ℕ) → Within k f h → Fresh k points c h → Fresh k points c f
 fresh-down k points c f h b fr q l u = fr q l (λ i z. omega (arith, u i z, b i z))
 
 -- ---- The first c trades as a run of their own
 
-module _ (points : List Trade) (c : ℕ) (l : c ≤ length points) where
+module _ {K : ℕ} (points : List (Trade K)) (c : ℕ) (l : c ≤ length points) where
   pub front_length : length (take c points) ≡ c
   front_length = length-take-le c points l
 
@@ -63,10 +63,10 @@ module _ (points : List Trade) (c : ℕ) (l : c ≤ length points) where
   front-at q i = get_or-take c points q no_trade i
 
   front-row : (P : (ℕ → ℕ) → Type 0) (q : ℕ) → q < c → P (row (take c points) q) → P (row points q)
-  front-row P q i = subst (λ (t : Trade). P (at t.costs)) (front-at q i)
+  front-row P q i = subst (λ (t : Trade K). P (at t.costs)) (front-at q i)
 
   back-row : (P : (ℕ → ℕ) → Type 0) (q : ℕ) → q < c → P (row points q) → P (row (take c points) q)
-  back-row P q i = subst (λ (t : Trade). P (at t.costs)) (sym (front-at q i))
+  back-row P q i = subst (λ (t : Trade K). P (at t.costs)) (sym (front-at q i))
 
   pub fresh-back : (k : ℕ) (f : ℕ → ℕ) → Fresh k points c f → Fresh k (take c points) (length (take c points)) f
   fresh-back k f fr q i w = let z : q < c = omega (arith, front_length) in fr q z (front-row (λ (g : ℕ → ℕ). Within k g f) q z w)
@@ -84,24 +84,32 @@ module _ (points : List Trade) (c : ℕ) (l : c ≤ length points) where
 
 -- ---- Least and Greatest, one trade more
 
-module _ (k : ℕ) (points : List Trade) (j b : ℕ) where
-  pub least-new : Least k points j b → less k 0 (row points j) (row points b) → Least k points (j + 1) j
+module _ {K : ℕ} (k : ℕ) (points : List (Trade K)) (j b : ℕ) (x y : Trade K)
+    (here : x ≡ get_or points j no_trade) (there : y ≡ get_or points b no_trade) where
+  rows : (P : (ℕ → ℕ) → (ℕ → ℕ) → Type 0) → P (at x.costs) (at y.costs) → P (row points j) (row points b)
+  rows P h = subst (λ (t : Trade K). P (row points j) (at t.costs)) there (subst (λ (t : Trade K). P (at t.costs) (at y.costs)) here h)
+
+  pub least-new : Least k points j b → less k 0 (at x.costs) (at y.costs) → Least k points (j + 1) j
   least-new o z =
-      below_more (λ (u : ℕ). less k 0 (row points u) (row points j) → ⊥) j (λ u l y. o u l (lex-trans k 0 (row points u) (row points j) (row points b) y z)) (lex-self k (row points j))
+      let r = rows (less k 0) z in
+      below_more (λ (u : ℕ). less k 0 (row points u) (row points j) → ⊥) j
+      (λ u l y. o u l (lex-trans k 0 (row points u) (row points j) (row points b) y r)) (lex-self k (row points j))
 
-  pub least-old : Least k points j b → (less k 0 (row points j) (row points b) → ⊥) → Least k points (j + 1) b
-  least-old o n = below_more (λ (u : ℕ). less k 0 (row points u) (row points b) → ⊥) j o n
+  pub least-old : Least k points j b → (less k 0 (at x.costs) (at y.costs) → ⊥) → Least k points (j + 1) b
+  least-old o n = below_more (λ (u : ℕ). less k 0 (row points u) (row points b) → ⊥) j o (rows (λ (f h : ℕ → ℕ). less k 0 f h → ⊥) n)
 
-  pub greatest-new : Greatest k points j b → less k 0 (row points b) (row points j) → Greatest k points (j + 1) j
+  pub greatest-new : Greatest k points j b → less k 0 (at y.costs) (at x.costs) → Greatest k points (j + 1) j
   greatest-new o z =
-      below_more (λ (u : ℕ). less k 0 (row points j) (row points u) → ⊥) j (λ u l y. o u l (lex-trans k 0 (row points b) (row points j) (row points u) z y)) (lex-self k (row points j))
+      let r = rows (λ (f h : ℕ → ℕ). less k 0 h f) z in
+      below_more (λ (u : ℕ). less k 0 (row points j) (row points u) → ⊥) j
+      (λ u l y. o u l (lex-trans k 0 (row points b) (row points j) (row points u) r y)) (lex-self k (row points j))
 
-  pub greatest-old : Greatest k points j b → (less k 0 (row points b) (row points j) → ⊥) → Greatest k points (j + 1) b
-  greatest-old o n = below_more (λ (u : ℕ). less k 0 (row points b) (row points u) → ⊥) j o n
+  pub greatest-old : Greatest k points j b → (less k 0 (at y.costs) (at x.costs) → ⊥) → Greatest k points (j + 1) b
+  greatest-old o n = below_more (λ (u : ℕ). less k 0 (row points b) (row points u) → ⊥) j o (rows (λ (f h : ℕ → ℕ). less k 0 h f → ⊥) n)
 
 -- ---- A trade set at place j
 
-module _ (k : ℕ) (trade : Trade) (points : List Trade) (j : ℕ) (l : j < length points) where
+module _ {K : ℕ} (k : ℕ) (trade : Trade K) (points : List (Trade K)) (j : ℕ) (l : j < length points) where
   set-here : get_or (set points j trade) j no_trade ≡ trade
   set-here = get_or-set_same points j trade no_trade l
 
@@ -109,22 +117,25 @@ module _ (k : ℕ) (trade : Trade) (points : List Trade) (j : ℕ) (l : j < leng
   set-other u e = get_or-set_other points j u trade no_trade e
 
   pub free-old : (u : ℕ) → (u ≡ j → ⊥) → (h : ℕ → ℕ) → (Within k (row (set points j trade) u) h → ⊥) → Within k (row points u) h → ⊥
-  free-old u e h fr b = fr (subst (λ (t : Trade). Within k (at t.costs) h) (sym (set-other u e)) b)
+  free-old u e h fr b = fr (subst (λ (t : Trade K). Within k (at t.costs) h) (sym (set-other u e)) b)
 
   pub free_new : (h : ℕ → ℕ) → (Within k (row (set points j trade) j) h → ⊥) → Within k (at trade.costs) h → ⊥
-  free_new h fr b = fr (subst (λ (t : Trade). Within k (at t.costs) h) (sym set-here) b)
+  free_new h fr b = fr (subst (λ (t : Trade K). Within k (at t.costs) h) (sym set-here) b)
 
   -- what is at a place after is the trade, or was there before
-  pub set-cases : (P : Trade → Type 0) (u : ℕ) → (u ≡ j → P trade) → ((u ≡ j → ⊥) → P (get_or points u no_trade)) → P (get_or (set points j trade) u no_trade)
+  pub set-cases : (P : Trade K → Type 0) (u : ℕ) → (u ≡ j → P trade) → ((u ≡ j → ⊥) → P (get_or points u no_trade))
+      → P (get_or (set points j trade) u no_trade)
   set-cases P u a b =
       ⊎_elim (λ e. subst P (sym (ap (λ (v : ℕ). get_or (set points j trade) v no_trade) e ∙ set-here)) (a e)) (λ e. subst P (sym (set-other u e)) (b e)) (eq-or u j)
 
   came : (c c' : ℕ) → ((u : ℕ) → u < c' → (u ≡ j → ⊥) → u < c) → (u : ℕ) → u < c'
       → (get_or (set points j trade) u no_trade ≡ trade) ⊎ Among points c (get_or (set points j trade) u no_trade)
-  came c c' in' u z = set-cases (λ (t : Trade). (t ≡ trade) ⊎ Among points c t) u (λ e. inl refl) (λ e. inr (record { place = u; inside = in' u z e; here = refl }))
+  came c c' in' u z =
+      set-cases (λ (t : Trade K). (t ≡ trade) ⊎ Among points c t) u (λ e. inl refl) (λ e. inr (record { place = u; inside = in' u z e; here = refl }))
 
   -- over a trade that it weakly dominates, or in a new place
-  pub keeps_placed : (stock stock' : Stock) → stock'.limit ≡ stock.limit → stock'.count ≤ length (set points j trade) → stock.count ≤ stock'.count → j < stock'.count
+  pub keeps_placed : (stock stock' : Stock K) → stock'.limit ≡ stock.limit → stock'.count ≤ length (set points j trade) → stock.count ≤ stock'.count
+      → j < stock'.count
       → ((u : ℕ) → u < stock'.count → (u ≡ j → ⊥) → u < stock.count) → (j < stock.count → Within k (at trade.costs) (row points j))
       → Limited k points stock → Before k stock.limit (at trade.costs) → Keeps k trade points stock (set points j trade) stock'
   keeps_placed stock stock' same rm up jl in' wi lim bef =
@@ -133,7 +144,7 @@ module _ (k : ℕ) (trade : Trade) (points : List Trade) (j : ℕ) (l : j < leng
         came = came stock.count stock'.count in';
         limited = λ top is u z.
             let was : stock.limit ≡ Some top = sym same ∙ is in
-            set-cases (λ (t : Trade). less k 0 (at top) (at t.costs) → ⊥) u
+            set-cases (λ (t : Trade K). less k 0 (at top) (at t.costs) → ⊥) u
             (λ e y. lex-self k (at top) (lex-trans k 0 (at top) (at trade.costs) (at top) y (bef top was)))
             (λ e y. lim top was u (in' u z e) y);
         some = λ s top is. omega (arith, s top (sym same ∙ is));
@@ -146,7 +157,8 @@ module _ (k : ℕ) (trade : Trade) (points : List Trade) (j : ℕ) (l : j < leng
       }
 
   -- over the greatest trade, which becomes the limit
-  pub keeps-last : (stock : Stock) (top : List ℕ) → stock.count ≤ length (set points j trade) → j < stock.count → Greatest k points stock.count j → top ≡ (get_or points j no_trade).costs
+  pub keeps-last : (stock : Stock K) (top : List ℕ) → stock.count ≤ length (set points j trade) → j < stock.count → Greatest k points stock.count j
+      → top ≡ (get_or points j no_trade).costs
       → less k 0 (at trade.costs) (at top) → Limited k points stock → Keeps k trade points stock (set points j trade) (record { count = stock.count; limit = Some top })
   keeps-last stock top rm jl gr e z lim =
       record {
@@ -155,7 +167,7 @@ module _ (k : ℕ) (trade : Trade) (points : List Trade) (j : ℕ) (l : j < leng
         limited = λ top' is u y.
             let same : top ≡ top' = cc in
             subst (λ (t : List ℕ). less k 0 (at t) (row (set points j trade) u) → ⊥) same
-            (set-cases (λ (t : Trade). less k 0 (at top) (at t.costs) → ⊥) u
+            (set-cases (λ (t : Trade K). less k 0 (at top) (at t.costs) → ⊥) u
             (λ q x. lex-self k (at top) (lex-trans k 0 (at top) (at trade.costs) (at top) x z))
             (λ q x. gr u y (subst (λ (t : List ℕ). less k 0 (at t) (row points u)) e x)));
         some = λ _ _ _. omega arith;
@@ -176,15 +188,18 @@ module _ (k : ℕ) (trade : Trade) (points : List Trade) (j : ℕ) (l : j < leng
           (λ q. free-old u q h (fr u i)) (eq-or u j)
 
 -- left out, as the limit
-pub keeps-out : (k : ℕ) (trade : Trade) (points : List Trade) (stock : Stock) (j : ℕ) → stock.count ≤ length points → j < stock.count → Greatest k points stock.count j
-    → (less k 0 (at trade.costs) (row points j) → ⊥) → Before k stock.limit (at trade.costs) → Keeps k trade points stock points (record { count = stock.count; limit = Some trade.costs })
-keeps-out k trade points stock j rm jl gr n bef =
+pub keeps-out : {K : ℕ} (k : ℕ) (trade : Trade K) (points : List (Trade K)) (stock : Stock K) (j : ℕ) → stock.count ≤ length points
+    → j < stock.count → Greatest k points stock.count j
+    → (top : List ℕ) → top ≡ (get_or points j no_trade).costs → (less k 0 (at trade.costs) (at top) → ⊥) → Before k stock.limit (at trade.costs)
+    → Keeps k trade points stock points (record { count = stock.count; limit = Some trade.costs })
+keeps-out k trade points stock j rm jl gr last e n bef =
     record {
       room = rm;
       came = λ u l. inr (record { place = u; inside = l; here = refl });
       limited = λ top is u l y.
           let same : trade.costs ≡ top = cc in
-          n (lex-through k 0 (at trade.costs) (row points u) (row points j) (subst (λ (t : List ℕ). less k 0 (at t) (row points u)) (sym same) y) (gr u l));
+          n (lex-through k 0 (at trade.costs) (row points u) (at last) (subst (λ (t : List ℕ). less k 0 (at t) (row points u)) (sym same) y)
+          (subst (λ (t : List ℕ). less k 0 (at t) (row points u) → ⊥) (sym e) (gr u l)));
       some = λ _ _ _. omega arith;
       new = λ h b fr. record { top = trade.costs; is = refl; behind = lex-up k 0 k h (at trade.costs) (omega arith) b };
       kept = λ h acc fr.

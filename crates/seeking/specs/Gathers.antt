@@ -10,29 +10,30 @@ use Rattle.seeking.specs.declared.stocks.Stock.{Stock}
 use Rattle.seeking.specs.Stocks.{Same, Accounted, Limited, Backed}
 
 -- Feasible, and dominated by no listed trade.
-pub record Fit (problem : Problem) (listed : List Trade) (x : ℕ → ℕ) : Type 0 where
+pub record Fit {K : ℕ} (problem : Problem K) (listed : List (Trade K)) (x : ℕ → ℕ) : Type 0 where
   pub meets : Meets problem.rows x
   pub fresh : Fresh problem.count listed (length listed) (vec problem x)
 
 -- The trade's assignment meets the rows, and has its vector.
-pub record Known (problem : Problem) (trade : Trade) : Type 0 where
+pub record Known {K : ℕ} (problem : Problem K) (trade : Trade K) : Type 0 where
   pub fits : trade.model < 2 ^ problem.rows.n
   pub meets : Meets problem.rows (bit trade.model)
   pub value : Same problem.count (at trade.costs) (vec problem (bit trade.model))
 
 -- The same, and no listed trade weakly dominates it.
-pub record Found (problem : Problem) (listed : List Trade) (trade : Trade) : Type 0 where
+pub record Found {K : ℕ} (problem : Problem K) (listed : List (Trade K)) (trade : Trade K) : Type 0 where
   pub known : Known problem trade
   pub fresh : Fresh problem.count listed (length listed) (at trade.costs)
 
 -- A stock whose trades have P, and no trade of it is after the limit.
-pub record Held (P : Trade → Type 0) (k : ℕ) (points : List Trade) (stock : Stock) : Type 0 where
+pub record Held {K : ℕ} (P : Trade K → Type 0) (k : ℕ) (points : List (Trade K)) (stock : Stock K) : Type 0 where
   pub room : stock.count ≤ length points
   pub each : (j : ℕ) → j < stock.count → P (get_or points j no_trade)
   pub limited : Limited k points stock
 
 -- What gathering below p leaves: all that is fit below p is accounted for, and so is what was before.
-pub record Gathers (problem : Problem) (listed : List Trade) (p : Part) (points : List Trade) (stock : Stock) (points' : List Trade) (stock' : Stock) : Type 0 where
+pub record Gathers {K : ℕ} (problem : Problem K) (listed : List (Trade K)) (p : Part)
+    (points : List (Trade K)) (stock : Stock K) (points' : List (Trade K)) (stock' : Stock K) : Type 0 where
   pub held : Held (Found problem listed) problem.count points' stock'
   pub some : Backed stock → Backed stock'
   pub all : (x : ℕ → ℕ) → Completes problem.rows.n (of p) x → Fit problem listed x → Accounted problem.count points' stock' (vec problem x)

@@ -15,38 +15,39 @@ pub record Past (k : ℕ) (limit : Option (List ℕ)) (f : ℕ → ℕ) : Type 0
   pub behind : less k 0 f (at top) → ⊥
 
 -- f is accounted for: a gathered trade weakly dominates it, or it does not come before the limit.
-abbrev pub Accounted : ℕ → List Trade → Stock → (ℕ → ℕ) → Type 0
+abbrev pub Accounted : {K : ℕ} → ℕ → List (Trade K) → Stock K → (ℕ → ℕ) → Type 0
 Accounted k points stock f = Fresh k points stock.count f → Past k stock.limit f
 
 -- No gathered trade comes after the limit.
-abbrev pub Limited : ℕ → List Trade → Stock → Type 0
+abbrev pub Limited : {K : ℕ} → ℕ → List (Trade K) → Stock K → Type 0
 Limited k points stock = (top : List ℕ) → stock.limit ≡ Some top → (j : ℕ) → j < stock.count → less k 0 (at top) (row points j) → ⊥
 
 -- A limit comes only where a trade is gathered.
-abbrev pub Backed : Stock → Type 0
+abbrev pub Backed : {K : ℕ} → Stock K → Type 0
 Backed stock = (top : List ℕ) → stock.limit ≡ Some top → 1 ≤ stock.count
 
 -- One of the first c trades.
-pub record Among (points : List Trade) (c : ℕ) (trade : Trade) : Type 0 where
+pub record Among {K : ℕ} (points : List (Trade K)) (c : ℕ) (trade : Trade K) : Type 0 where
   pub place : ℕ
   pub inside : place < c
   pub here : trade ≡ get_or points place no_trade
 
 -- The trade j is a least of the first c.
-abbrev pub Least : ℕ → List Trade → ℕ → ℕ → Type 0
+abbrev pub Least : {K : ℕ} → ℕ → List (Trade K) → ℕ → ℕ → Type 0
 Least k points c j = (u : ℕ) → u < c → less k 0 (row points u) (row points j) → ⊥
 
 -- The trade j is a greatest of the first c.
-abbrev pub Greatest : ℕ → List Trade → ℕ → ℕ → Type 0
+abbrev pub Greatest : {K : ℕ} → ℕ → List (Trade K) → ℕ → ℕ → Type 0
 Greatest k points c j = (u : ℕ) → u < c → less k 0 (row points j) (row points u) → ⊥
 
 -- A trade that f weakly dominates, if one is answered.
-abbrev pub Worse : ℕ → (ℕ → ℕ) → List Trade → Option ℕ → Type 0
+abbrev pub Worse : {K : ℕ} → ℕ → (ℕ → ℕ) → List (Trade K) → Option ℕ → Type 0
 Worse k f points (Some j) = (j < length points) × Within k f (row points j)
 Worse k f points None = Unit {0}
 
 -- What keeping a trade does to a stock: its trades are old ones and the new one, what that weakly dominates is accounted for, and what was stays so.
-pub record Keeps (k : ℕ) (trade : Trade) (points : List Trade) (stock : Stock) (points' : List Trade) (stock' : Stock) : Type 0 where
+pub record Keeps {K : ℕ} (k : ℕ) (trade : Trade K)
+    (points : List (Trade K)) (stock : Stock K) (points' : List (Trade K)) (stock' : Stock K) : Type 0 where
   pub room : stock'.count ≤ length points'
   pub came : (u : ℕ) → u < stock'.count → (get_or points' u no_trade ≡ trade) ⊎ Among points stock.count (get_or points' u no_trade)
   pub limited : Limited k points' stock'

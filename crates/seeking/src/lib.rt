@@ -25,16 +25,16 @@ use leaves::leaf;
 pub use stocks::{Stock, least};
 pub use vectors::fresh;
 
-// Rows, ceilings (R7), caps and charges, until nothing more is forced.
-fn reduce(
-    problem: &Problem<'_>,
-    listed: &[Trade],
-    gathered: &[Trade],
-    limit: Option<Vector>,
+// Rows, ceilings (R7), caps and charges, until nothing more is forced. The limit is lent, since each round reads it.
+fn reduce<const K: usize>(
+    problem: &Problem<'_, K>,
+    listed: &[Trade<K>],
+    gathered: &[Trade<K>],
+    limit: &Option<Vector<K>>,
     p: Part,
 ) -> Option<Part>
     requires { Good problem.now.rows.n p }
-    ensures { Cuts problem.now.rows.n (Seeks problem.now listed.now gathered.now (length gathered.now) limit) p result }
+    ensures { Cuts problem.now.rows.n (Seeks problem.now listed.now gathered.now (length gathered.now) limit.now) p result }
 {
     let ceilings = Goal {
         rows: problem.rows,
@@ -47,7 +47,7 @@ fn reduce(
         let before = q.left;
         let r = narrowing::pass(&problem.rows, q)?;
         let s = forcing::forces(&ceilings, r)?;
-        let cap = capping::caps(problem, listed, gathered, limit, s)?;
+        let cap = capping::caps(problem, listed, gathered, *limit, s)?;
         let goal = Goal {
             rows: problem.rows,
             costs: problem.costs,
@@ -61,19 +61,19 @@ fn reduce(
 }
 
 // Gathers what is fit below p.
-pub fn search(
-    problem: &Problem<'_>,
-    listed: &[Trade],
-    points: &mut [Trade],
+pub fn search<const K: usize>(
+    problem: &Problem<'_, K>,
+    listed: &[Trade<K>],
+    points: &mut [Trade<K>],
     p: Part,
-    stock: Stock,
-) -> Stock
+    stock: Stock<K>,
+) -> Stock<K>
     requires part { Good problem.now.rows.n p }
     requires room { 1 ≤ length points.old }
     requires held { Held (Found problem.now listed.now) problem.now.count points.old stock }
-    ensures { Gathers problem.now listed.now p points.old stock points.new result }
+    ensures { Gathers problem.now listed.now p points.old stock.entry points.new result }
 {
-    let Some(q) = reduce(problem, listed, &points[..stock.count], stock.limit, p) else {
+    let Some(q) = reduce(problem, listed, &points[..stock.count], &stock.limit, p) else {
         return stock;
     };
     let n = problem.rows.n;

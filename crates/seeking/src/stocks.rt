@@ -1,25 +1,26 @@
 // Stocks of gathered trades: the least and the greatest, keeping one more.
-ghost use Rattle.std.specs.Prelude.{◌≡◌, ◌<◌, ◌≤◌, length};
-ghost use Rattle.capping.specs.Caps.{at, Before};
+ghost use Rattle.std.specs.Prelude.{◌≡◌, true, ◌<◌, ◌≤◌, length};
+ghost use Rattle.capping.specs.Caps.{at, Within, Before};
 ghost use Rattle.seeking.specs.Stocks.{Worse, Least, Greatest, Limited, Keeps};
 
 use crate::vectors::{earlier, within};
-use capping::{Problem, Trade, Vector};
+use capping::{Trade, Vector};
 
 // How many trades are gathered, and the limit, if there is one: what does not come before it is not sought.
 #[derive(Clone, Copy, Debug, PartialEq, Eq)]
-pub struct Stock {
+pub struct Stock<const K: usize> {
     pub count: usize,
-    pub limit: Option<Vector>,
+    pub limit: Option<Vector<K>>,
 }
 
 // A least of the trades.
-pub fn least(problem: &Problem<'_>, trades: &[Trade]) -> usize
-    ensures { (1 ≤ length trades.now → result < length trades.now) × Least problem.now.count trades.now (length trades.now) result }
+pub fn least<const K: usize>(k: usize, trades: &[Trade<K>]) -> usize
+    requires { k ≤ K }
+    ensures { (1 ≤ length trades.now → result < length trades.now) × Least k trades.now (length trades.now) result }
 {
     let mut best = 0;
     for (j, trade) in trades.iter().enumerate() {
-        if earlier(problem.count, &trade.costs, &trades[best].costs) {
+        if earlier(k, &trade.costs, &trades[best].costs) {
             best = j;
         }
     }
@@ -27,8 +28,8 @@ pub fn least(problem: &Problem<'_>, trades: &[Trade]) -> usize
 }
 
 // A greatest of the trades. Kept beside `least`: a function over both orders would need the order's laws as parameters, and is longer.
-pub fn greatest(k: usize, trades: &[Trade]) -> usize
-    requires { (k ≤ 4) × (1 ≤ length trades.now) }
+pub fn greatest<const K: usize>(k: usize, trades: &[Trade<K>]) -> usize
+    requires { (k ≤ K) × (1 ≤ length trades.now) }
     ensures { (result < length trades.now) × Greatest k trades.now (length trades.now) result }
 {
     let mut best = 0;
@@ -41,18 +42,29 @@ pub fn greatest(k: usize, trades: &[Trade]) -> usize
 }
 
 // The first of the trades that f weakly dominates.
-pub fn worse(k: usize, f: &Vector, trades: &[Trade]) -> Option<usize>
-    requires { k ≤ 4 }
+pub fn worse<const K: usize>(k: usize, f: &Vector<K>, trades: &[Trade<K>]) -> Option<usize>
+    requires { k ≤ K }
     ensures { Worse k (at f.now) trades.now result }
 {
-    trades.iter().position(|trade| within(k, f, &trade.costs))
+    // Clauses, as in `within`.
+    trades.iter().position(
+        |trade|
+            requires { k ≤ K }
+            ensures { result ≡ true → Within k (at f.entry.now) (at trade.now.costs) }
+        { within(k, f, &trade.costs) },
+    )
 }
 
 // The trade against the gathered ones where there is no room for more: the greatest of them and it is left out, and becomes the limit.
-pub fn cut_last(k: usize, trade: Trade, points: &mut [Trade], stock: Stock) -> Stock
-    requires sizes { (k ≤ 4) × (stock.count ≤ length points.old) × (1 ≤ stock.count) }
+pub fn cut_last<const K: usize>(
+    k: usize,
+    trade: Trade<K>,
+    points: &mut [Trade<K>],
+    stock: Stock<K>,
+) -> Stock<K>
+    requires sizes { (k ≤ K) × (stock.count ≤ length points.old) × (1 ≤ stock.count) }
     requires limit { Limited k points.old stock × Before k stock.limit (at trade.costs) }
-    ensures { Keeps k trade points.old stock points.new result }
+    ensures { Keeps k trade.entry points.old stock.entry points.new result }
 {
     let count = stock.count;
     let j = greatest(k, &points[..count]);
@@ -71,10 +83,15 @@ pub fn cut_last(k: usize, trade: Trade, points: &mut [Trade], stock: Stock) -> S
 }
 
 // The trade in the place of one that it weakly dominates, or in a new place; where there is no room for it, a limit.
-pub fn keep(k: usize, trade: Trade, points: &mut [Trade], stock: Stock) -> Stock
-    requires sizes { (k ≤ 4) × (stock.count ≤ length points.old) × (1 ≤ length points.old) }
+pub fn keep<const K: usize>(
+    k: usize,
+    trade: Trade<K>,
+    points: &mut [Trade<K>],
+    stock: Stock<K>,
+) -> Stock<K>
+    requires sizes { (k ≤ K) × (stock.count ≤ length points.old) × (1 ≤ length points.old) }
     requires limit { Limited k points.old stock × Before k stock.limit (at trade.costs) }
-    ensures { Keeps k trade points.old stock points.new result }
+    ensures { Keeps k trade.entry points.old stock.entry points.new result }
 {
     let count = stock.count;
     if let Some(j) = worse(k, &trade.costs, &points[..count]) {

@@ -8,10 +8,10 @@ use capping::{Problem, Trade, Vector};
 use charging::Part;
 
 // The vector that is sure; that of a complete part is its own.
-pub fn price(problem: &Problem<'_>, p: Part) -> Vector
+pub fn price<const K: usize>(problem: &Problem<'_, K>, p: Part) -> Vector<K>
     ensures { Same problem.now.count (at result) (vec problem.now (of p)) }
 {
-    let mut costs = [0; 4];
+    let mut costs = [0; K];
     for i in 0..problem.count {
         costs[i] = charging::sure(problem.costs_of(i), p);
     }
@@ -19,22 +19,30 @@ pub fn price(problem: &Problem<'_>, p: Part) -> Vector
 }
 
 // Whether f is at most h in every place: f weakly dominates h.
-pub fn within(k: usize, f: &Vector, h: &Vector) -> bool
-    requires { k ≤ 4 }
+pub fn within<const K: usize>(k: usize, f: &Vector<K>, h: &Vector<K>) -> bool
+    requires { k ≤ K }
     ensures yes { result ≡ true → Within k (at f.now) (at h.now) }
     ensures no { result ≡ false → Within k (at f.now) (at h.now) → ⊥ }
 {
-    (0..k).all(|i| f[i] <= h[i])
+    // Clauses, since where K is a parameter nothing is known of a closure that has none.
+    (0..k).all(
+        |i|
+            requires { i < K }
+            ensures yes { result ≡ true → at f.entry.now i ≤ at h.entry.now i }
+            ensures no { result ≡ false → at h.entry.now i < at f.entry.now i }
+        { f[i] <= h[i] },
+    )
 }
 
 // Whether none of the trades weakly dominates f.
-pub fn fresh(problem: &Problem<'_>, f: &Vector, trades: &[Trade]) -> bool
-    ensures yes { result ≡ true → Fresh problem.now.count trades.now (length trades.now) (at f.now) }
-    ensures no { result ≡ false → Fresh problem.now.count trades.now (length trades.now) (at f.now) → ⊥ }
+pub fn fresh<const K: usize>(k: usize, f: &Vector<K>, trades: &[Trade<K>]) -> bool
+    requires { k ≤ K }
+    ensures yes { result ≡ true → Fresh k trades.now (length trades.now) (at f.now) }
+    ensures no { result ≡ false → Fresh k trades.now (length trades.now) (at f.now) → ⊥ }
 {
     // Kept a loop: the contract of `all` or `any` left open which trade it was.
     for trade in trades {
-        if within(problem.count, &trade.costs, f) {
+        if within(k, &trade.costs, f) {
             return false;
         }
     }
@@ -42,8 +50,8 @@ pub fn fresh(problem: &Problem<'_>, f: &Vector, trades: &[Trade]) -> bool
 }
 
 // Whether f comes before h: by the first cost in which they differ.
-pub fn earlier(k: usize, f: &Vector, h: &Vector) -> bool
-    requires { k ≤ 4 }
+pub fn earlier<const K: usize>(k: usize, f: &Vector<K>, h: &Vector<K>) -> bool
+    requires { k ≤ K }
     ensures yes { result ≡ true → less k 0 (at f.now) (at h.now) }
     ensures no { result ≡ false → less k 0 (at f.now) (at h.now) → ⊥ }
 {
@@ -51,10 +59,10 @@ pub fn earlier(k: usize, f: &Vector, h: &Vector) -> bool
 }
 
 // Whether f comes before the limit, if there is one.
-pub fn before(k: usize, f: &Vector, limit: Option<Vector>) -> bool
-    requires { k ≤ 4 }
-    ensures yes { result ≡ true → Before k limit (at f.now) }
-    ensures no { result ≡ false → Before k limit (at f.now) → ⊥ }
+pub fn before<const K: usize>(k: usize, f: &Vector<K>, limit: Option<Vector<K>>) -> bool
+    requires { k ≤ K }
+    ensures yes { result ≡ true → Before k limit.entry (at f.now) }
+    ensures no { result ≡ false → Before k limit.entry (at f.now) → ⊥ }
 {
     match limit {
         Some(top) => earlier(k, f, &top),

@@ -8,7 +8,7 @@ use Rattle.advancing.proofs.NextLaws.{smallest-same}
 use Rattle.advancing.proofs.witness.Goals as goal
 
 pub returns : goal.returns
-returns c =
+returns g c =
     let P = c.args.problem.now in
     let costs = c.args.costs.now in
     let long : P.count ≤ length costs = omega (arith, P.few) in

@@ -7,12 +7,12 @@ use Rattle.capping.proofs.CapLaws.{ahead-cap, ahead_more, ahead-off, ahead-end, 
 use Rattle.capping.proofs.ahead.Goals as goal
 
 pub returns-then-top-j : goal.returns-then-top-j
-returns-then-top-j c f a b h =
+returns-then-top-j g c f a b h =
     ahead-off c.args.k c.args.low.now c.in-Some.top c.args.cap c.loop-j.cap c.loop-j.j c.loop-j.invariant.1 c.loop-j-test.true c.if-top-j.true f a b
     (λ t e. h t (c.in-Some.is ∙ e))
 
 pub returns-then-low-j : goal.returns-then-low-j
-returns-then-low-j c f a b h =
+returns-then-low-j g c f a b h =
     let k = c.args.k in
     let low = c.args.low.now in
     let top = c.in-Some.top in
@@ -21,7 +21,7 @@ returns-then-low-j c f a b h =
     (λ t e. h t (c.in-Some.is ∙ e)))
 
 pub loop-j-preserved : goal.loop-j-preserved
-loop-j-preserved c =
+loop-j-preserved g c =
     let k = c.args.k in
     let low = c.args.low.now in
     let top = c.in-Some.top in
@@ -32,5 +32,5 @@ loop-j-preserved c =
     )
 
 pub returns : goal.returns
-returns c f a b h =
+returns g c f a b h =
     ahead-end c.args.k c.args.low.now c.in-Some.top c.args.cap c.loop-j.cap c.loop-j.j c.loop-j.invariant.1 (omega arith) f a b (λ t e. h t (c.in-Some.is ∙ e))

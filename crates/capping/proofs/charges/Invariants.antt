@@ -4,4 +4,4 @@ use Rattle.capping.specs.Caps.{Low}
 use Rattle.capping.proofs.charges.Given as goal
 
 abbrev pub invariant-loop-i : goal.invariant-loop-i
-invariant-loop-i l = Low l.problem l.i l.p l.low
+invariant-loop-i g l = Low l.problem l.i l.p l.low

@@ -4,4 +4,4 @@ use Rattle.capping.proofs.CapLaws.{Single}
 use Rattle.capping.proofs.point.Given as goal
 
 abbrev pub invariant-loop-i : goal.invariant-loop-i
-invariant-loop-i l = Single l.low l.costs l.only l.i
+invariant-loop-i g l = Single l.low l.costs l.only l.i

@@ -5,4 +5,4 @@ use Rattle.capping.specs.Caps.{Fresh, Tight}
 use Rattle.capping.proofs.points.Given as goal
 
 abbrev pub invariant-loop-trade : goal.invariant-loop-trade
-invariant-loop-trade l = Tight l.k l.low l.initial.cap (Fresh l.k l.trades l.trade-index) (Some l.cap)
+invariant-loop-trade g l = Tight l.k l.low l.initial.cap (Fresh l.k l.trades l.trade-index) (Some l.cap)

@@ -3,4 +3,4 @@
 use Rattle.seeking.proofs.+search.Given as goal
 
 abbrev pub decreases-search : goal.decreases-search
-decreases-search l = l.p.left
+decreases-search g l = l.p.left

@@ -6,7 +6,7 @@ use Rattle.capping.specs.Caps.{Seeks}
 use Rattle.seeking.proofs.reduce.Given as goal
 
 abbrev pub invariant-loop-r : goal.invariant-loop-r
-invariant-loop-r l = Leads l.problem.rows.n (Seeks l.problem l.listed l.gathered (length l.gathered) l.limit) l.initial.q l.q
+invariant-loop-r g l = Leads l.problem.rows.n (Seeks l.problem l.listed l.gathered (length l.gathered) l.limit) l.initial.q l.q
 
 abbrev pub decreases-loop-r : goal.decreases-loop-r
-decreases-loop-r l = l.q.left
+decreases-loop-r g l = l.q.left

@@ -6,4 +6,4 @@ use Rattle.advancing.specs.Stocked.{Sifted}
 use Rattle.advancing.proofs.choices.sift.Given as goal
 
 abbrev pub invariant-loop-last : goal.invariant-loop-last
-invariant-loop-last l = (length l.points ≡ length l.initial.points) × Sifted l.problem.count l.listed l.initial.points l.stock.count l.points l.last
+invariant-loop-last g l = (length l.points ≡ length l.initial.points) × Sifted l.problem.count l.listed l.initial.points l.stock.count l.points l.last

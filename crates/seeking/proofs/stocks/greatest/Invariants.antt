@@ -6,4 +6,4 @@ use Rattle.seeking.specs.Stocks.{Greatest}
 use Rattle.seeking.proofs.stocks.greatest.Given as goal
 
 abbrev pub invariant-loop-j : goal.invariant-loop-j
-invariant-loop-j l = (l.best < length l.trades) × Greatest l.k l.trades l.j l.best
+invariant-loop-j g l = (l.best < length l.trades) × Greatest l.k l.trades l.j l.best

@@ -8,7 +8,7 @@ use Rattle.seeking.proofs.StockLaws.{worse-front, keeps_placed}
 use Rattle.seeking.proofs.stocks.keep.Goals as goal
 
 pub returns-in-Some : goal.returns-in-Some
-returns-in-Some c =
+returns-in-Some g c =
     let a = c.args in
     let room = c.requires.sizes.1 in
     let w = worse-front a.points.now a.stock.count room a.k c.in-Some.j (at a.trade.costs) c.in-Some.ensures.0 c.in-Some.ensures.1 in
@@ -16,7 +16,7 @@ returns-in-Some c =
     c.requires.limit.0 c.requires.limit.1
 
 pub returns-then-count-points : goal.returns-then-count-points
-returns-then-count-points c =
+returns-then-count-points g c =
     let a = c.args in
     let count = a.stock.count in
     keeps_placed a.k a.trade a.points.now count c.if-count-points.true a.stock (record { count = count + 1; limit = a.stock.limit }) refl

@@ -6,4 +6,4 @@ use Rattle.seeking.specs.Stocks.{Least}
 use Rattle.seeking.proofs.stocks.least.Given as goal
 
 abbrev pub invariant-loop-j : goal.invariant-loop-j
-invariant-loop-j l = (1 ≤ length l.trades → l.best < length l.trades) × Least l.problem.count l.trades l.j l.best
+invariant-loop-j g l = (1 ≤ length l.trades → l.best < length l.trades) × Least l.k l.trades l.j l.best

@@ -4,4 +4,4 @@ use Rattle.capping.specs.Caps.{at, Fresh}
 use Rattle.seeking.proofs.vectors.fresh.Given as goal
 
 abbrev pub invariant-loop-trade : goal.invariant-loop-trade
-invariant-loop-trade l = Fresh l.problem.count l.trades l.trade-index (at l.f)
+invariant-loop-trade g l = Fresh l.k l.trades l.trade-index (at l.f)
