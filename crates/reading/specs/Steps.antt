@@ -3,6 +3,7 @@ use Rattle.std.specs.Prelude.{◌≡◌, Bool, true, false, ◌||◌, List, [], 
 use Rattle.words.specs.declared.Place.TheVariants.{Inside}
 use Rattle.words.specs.Tokens.{Mark, word, stop, marks_at}
 use Rattle.words.specs.Numbers.{number, literal, relation}
+use Rattle.words.specs.Answers.{NextToken}
 use Rattle.instance.specs.Limits.{max_bound, term_room}
 use Rattle.instance.specs.Kinds.{number_of}
 use Rattle.instance.specs.Terms.{Term, highest}
@@ -10,7 +11,10 @@ use Rattle.instance.specs.Rows.{Entry}
 use Rattle.reading.specs.declared.terms.Malformed.{Malformed}
 use Rattle.reading.specs.declared.terms.Literal.{Literal}
 use Rattle.reading.specs.declared.terms.TermRead.{TermRead}
+use Rattle.reading.specs.declared.terms.Step.{Step}
+use Rattle.reading.specs.declared.terms.Step.TheVariants.{Term as TermStep, Stop as StopStep}
 use Rattle.reading.specs.declared.terms.Run.{Run}
+use Rattle.reading.specs.declared.terms.TermsRead.{TermsRead}
 use Rattle.reading.specs.declared.statements.Bound.{Bound}
 use Rattle.reading.specs.declared.statements.Statement.{Statement}
 use Rattle.reading.specs.Grammar.{Words, add_term, objective, row, statement}
@@ -80,10 +84,10 @@ pub record IsTerm (text : List ℕ) (t : TermRead) : Type 0 where
   pub lit_is : literal lit_word ≡ Some t.lit
   pub fewer : length t.rest.now < length text
 
--- What stands where a term could begin: a term, none, or what breaks the grammar.
-abbrev pub StepIs : List ℕ → Result (Option TermRead) Malformed → Type 0
-StepIs text (Ok None) = IsStop (marks_at Inside text)
-StepIs text (Ok (Some t)) = IsTerm text t
+-- What stands where a term could begin: a term, the token at which none begins, or what breaks the grammar.
+abbrev pub StepIs : List ℕ → Result Step Malformed → Type 0
+StepIs text (Ok (StopStep o)) = NextToken text Inside o × IsStop (marks_at Inside text)
+StepIs text (Ok (TermStep t)) = IsTerm text t
 StepIs text (Err e) = Broken (marks_at Inside text)
 
 -- r' is the run r with the term t more.
@@ -109,12 +113,18 @@ pub record RunIs (text : List ℕ) (base : ℕ) (before after : List ℤ) (r : R
 abbrev pub Kept : List ℤ → List ℤ → Type 0
 Kept before after = drop term_room after ≡ drop term_room before
 
--- A run of terms up to where none begins, or what breaks the grammar.
-abbrev pub RunEnds : List ℕ → ℕ → List ℤ → List ℤ → Result Run Malformed → Type 0
-RunEnds text base before after (Ok r) = RunIs text base before after r × IsStop (marks_at Inside r.rest.now)
+-- A run of terms up to where none begins, and the token that stands there.
+pub record RunStops (text : List ℕ) (base : ℕ) (before after : List ℤ) (r : TermsRead) : Type 0 where
+  pub run : RunIs text base before after r.run
+  pub next : NextToken r.run.rest.now Inside r.stop
+  pub stop : IsStop (marks_at Inside r.run.rest.now)
+
+-- The same, or what breaks the grammar.
+abbrev pub RunEnds : List ℕ → ℕ → List ℤ → List ℤ → Result TermsRead Malformed → Type 0
+RunEnds text base before after (Ok r) = RunStops text base before after r
 RunEnds text base before after (Err e) = Broken (marks_at Inside text)
 
-pub record RunEnd (text : List ℕ) (base : ℕ) (before after : List ℤ) (r : Result Run Malformed) : Type 0 where
+pub record RunEnd (text : List ℕ) (base : ℕ) (before after : List ℤ) (r : Result TermsRead Malformed) : Type 0 where
   pub kept : Kept before after
   pub run : RunEnds text base before after r
 

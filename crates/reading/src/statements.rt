@@ -62,8 +62,9 @@ fn read_objective<'a>(
     requires term_room_in_bounds { term_room ≤ length terms.old }
     ensures { Closing objective (marks_at Inside text.now) (length text.now) base terms.old terms.new result }
 {
-    let run = read_terms(text, terms, base)?;
-    let next = next_token(run.rest, Place::Inside).ok_or(Malformed)?;
+    let read = read_terms(text, terms, base)?;
+    let run = read.run;
+    let next = read.stop.ok_or(Malformed)?;
     let Token::Stop = next.token else {
         return Err(Malformed);
     };
@@ -85,8 +86,9 @@ fn read_row<'a>(text: &'a [u8], terms: &mut [i32], base: usize) -> Result<Statem
     requires term_room_in_bounds { term_room ≤ length terms.old }
     ensures { Closing row (marks_at Inside text.now) (length text.now) base terms.old terms.new result }
 {
-    let run = read_terms(text, terms, base)?;
-    let next = next_token(run.rest, Place::Inside).ok_or(Malformed)?;
+    let read = read_terms(text, terms, base)?;
+    let run = read.run;
+    let next = read.stop.ok_or(Malformed)?;
     let Token::Word(word) = next.token else {
         return Err(Malformed);
     };

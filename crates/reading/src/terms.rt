@@ -5,7 +5,7 @@ ghost use Rattle.reading.specs.Steps.{SecondIs, StepIs, RunEnd, Longer};
 
 use crate::cells::{is_unnamed, is_wide, store_term};
 use words::numbers::{read_literal, read_number, read_relation};
-use words::{Place, Token, next_token};
+use words::{Next, Place, Token, next_token};
 
 // A statement breaks the grammar.
 #[derive(Clone, Copy, Debug, PartialEq, Eq)]
@@ -41,22 +41,29 @@ fn read_second(text: &[u8]) -> Option<Literal<'_>>
     })
 }
 
-// The term that stands first in a text; none where a relation, a `;` or nothing stands there.
-pub fn read_term(text: &[u8]) -> Result<Option<TermRead<'_>>, Malformed>
+// What stands where a term could begin: a term, or the token that stands there instead, if there is one.
+#[derive(Clone, Copy, Debug)]
+pub enum Step<'a> {
+    Term(TermRead<'a>),
+    Stop(Option<Next<'a>>),
+}
+
+// The term that stands first in a text, or the relation, the `;` or nothing that stands there.
+pub fn read_term(text: &[u8]) -> Result<Step<'_>, Malformed>
     ensures { StepIs text.now result }
 {
     let Some(next) = next_token(text, Place::Inside) else {
-        return Ok(None);
+        return Ok(Step::Stop(None));
     };
     let Token::Word(word) = next.token else {
-        return Ok(None);
+        return Ok(Step::Stop(Some(next)));
     };
     if read_relation(word).is_some() {
-        return Ok(None);
+        return Ok(Step::Stop(Some(next)));
     }
     let coef = read_number(word).ok_or(Malformed)?;
     let second = read_second(next.rest).ok_or(Malformed)?;
-    Ok(Some(TermRead {
+    Ok(Step::Term(TermRead {
         coef,
         lit: second.lit,
         rest: second.rest,
@@ -89,8 +96,19 @@ impl<'a> Run<'a> {
     }
 }
 
+// A run of terms, and the token that stands after it, if there is one.
+#[derive(Clone, Copy, Debug)]
+pub struct TermsRead<'a> {
+    pub run: Run<'a>,
+    pub stop: Option<Next<'a>>,
+}
+
 // The terms that stand first in a text, stored from place `base` of the table on where they are in range and have room.
-pub fn read_terms<'a>(text: &'a [u8], terms: &mut [i32], base: usize) -> Result<Run<'a>, Malformed>
+pub fn read_terms<'a>(
+    text: &'a [u8],
+    terms: &mut [i32],
+    base: usize,
+) -> Result<TermsRead<'a>, Malformed>
     requires text_len_bound { length text.now < 2 ^ 32 }
     requires base_le_max_terms { base ≤ max_terms }
     requires term_room_in_bounds { term_room ≤ length terms.old }
@@ -105,10 +123,12 @@ pub fn read_terms<'a>(text: &'a [u8], terms: &mut [i32], base: usize) -> Result<
     };
     // Kept as a loop: how much of the text a term takes is known once it is read.
     loop {
-        let Some(t) = read_term(run.rest)? else {
-            return Ok(run);
-        };
-        store_term(terms, base + run.count, t.coef, t.lit);
-        run = run.with(t);
+        match read_term(run.rest)? {
+            Step::Stop(stop) => return Ok(TermsRead { run, stop }),
+            Step::Term(t) => {
+                store_term(terms, base + run.count, t.coef, t.lit);
+                run = run.with(t);
+            }
+        }
     }
 }

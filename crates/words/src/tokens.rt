@@ -1,4 +1,5 @@
 // Tokens: the words and semicolons of a text, one after the other.
+ghost use Rattle.std.specs.Prelude.{◌-◌, ◌≤◌, length, take, drop};
 ghost use Rattle.words.specs.Answers.{Skipped, WordEnd, NextToken};
 
 use crate::{Place, begins_token, is_plain, next_place};
@@ -17,26 +18,36 @@ pub struct Next<'a> {
     pub rest: &'a [u8],
 }
 
+// The place of the first byte that is neither blank nor in a comment, or the text's end. `place` is where the text begins in its line.
+fn blanks_end(text: &[u8], place: Place) -> usize
+    ensures high { result ≤ length text.now }
+    ensures skipped { Skipped text.now place (take (length text.now - result) (drop result text.now)) }
+{
+    let mut p = place;
+    // Kept by index: over the bytes themselves, with a count beside them, a turn takes up to twice the time.
+    for i in 0..text.len() {
+        let b = text[i];
+        if begins_token(p, b) {
+            return i;
+        }
+        p = next_place(p, b);
+    }
+    text.len()
+}
+
 // The text from its first byte on that is neither blank nor in a comment. `place` is where the text begins in its line.
 pub fn skip_blanks(text: &[u8], place: Place) -> &[u8]
     ensures { Skipped text.now place result.now }
 {
-    let mut p = place;
-    for (i, &b) in text.iter().enumerate() {
-        if begins_token(p, b) {
-            return &text[i..];
-        }
-        p = next_place(p, b);
-    }
-    &text[text.len()..]
+    &text[blanks_end(text, place)..]
 }
 
 // The place of the first byte that is no part of a word, or the text's end.
 pub fn word_end(text: &[u8]) -> usize
     ensures { WordEnd text.now result }
 {
-    for (i, &b) in text.iter().enumerate() {
-        if !is_plain(b) {
+    for i in 0..text.len() {
+        if !is_plain(text[i]) {
             return i;
         }
     }

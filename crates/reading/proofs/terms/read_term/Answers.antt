@@ -11,7 +11,9 @@ use Rattle.reading.proofs.terms.read_term.Goals.{Then-is_some, Else-is_some}
 use Rattle.reading.proofs.terms.read_term.Goals as goal
 
 pub returns-then-is_some : goal.returns-then-is_some
-returns-then-is_some c = stops-word (token-word (c.in-Some.ensures).0 c.in-Word.is) (relation-some c.in-Word.word.now c.read_relation.result c.read_relation.ensures (sym c.is_some.ensures ∙ c.if-is_some.true))
+returns-then-is_some c =
+    let r = relation-some c.in-Word.word.now c.read_relation.result c.read_relation.ensures (sym c.is_some.ensures ∙ c.if-is_some.true) in
+    (c.in-Some.ensures, stops-word (token-word (c.in-Some.ensures).0 c.in-Word.is) r)
 
 pub returns-in_err-coef : goal.returns-in_err-coef
 returns-in_err-coef c =

@@ -4,8 +4,8 @@ use lib.ListN.{length}
 use Rattle.reading.specs.Steps.{RunIs}
 use Rattle.reading.proofs.terms.read_terms.Given as goal
 
-abbrev pub invariant-loop-t : goal.invariant-loop-t
-invariant-loop-t l = RunIs l.text l.base l.initial.terms l.terms l.run
+abbrev pub invariant-loop-stop : goal.invariant-loop-stop
+invariant-loop-stop l = RunIs l.text l.base l.initial.terms l.terms l.run
 
-abbrev pub decreases-loop-t : goal.decreases-loop-t
-decreases-loop-t l = length l.run.rest.now
+abbrev pub decreases-loop-stop : goal.decreases-loop-stop
+decreases-loop-stop l = length l.run.rest.now
