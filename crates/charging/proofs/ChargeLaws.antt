@@ -3,13 +3,14 @@
 -- R5: let the terms that need no charge give too little for the row. A completion that meets the row has some other term helping; its variable stands
 -- on its dear side with something left to charge. Taking m off each such variable (m at most what is left at any of them) and adding m to the
 -- bound keeps: bound + what is left on dear sides ≤ cost, for every completion that meets the rows.
-use mathlib.Core.Path.{◌≡◌, ◌∙◌}
+use mathlib.Core.Path.{◌≡◌, sym, ◌∙◌, subst}
 use mathlib.Core.Logic.{⊎_elim}
 use mathlib.Core.List.{List}
 use Prim.Native.Nat.{ℕ, ◌+◌, ◌^◌, ◌≤◌, ◌<◌}
 use native.Mathlib.Nat.{le_refl, zero-add}
 use native.Mathlib.Omega.{arith}
-use lib.ListN.{length, get_or}
+use lib.ListN.{length, get_or, set}
+use lib.Seq.{get_or-set_same, get_or-set_other}
 use Rattle.charging.specs.declared.rows.Term.{Term}
 use Rattle.charging.specs.declared.rows.Cost.{Cost}
 use Rattle.charging.specs.declared.rows.Rows.{Rows}
@@ -134,3 +135,22 @@ pub rest-one : (res : List ℕ) (costs : List Cost) (x : ℕ → ℕ) (v : ℕ) 
 rest-one res costs x v l e =
     let k = one_of (λ (u : ℕ). hit (x u) (dear costs u) (get_or res u 0)) (length costs) v l in
     omega (arith, hit-eq (x v) (dear costs v) (get_or res v 0) e)
+
+-- ---- Owed
+
+pub owed-first : (val : ℕ → ℕ) (costs : List Cost) (res : List ℕ) → Owed 0 val costs res
+owed-first val costs res = record { open' = λ v l. omega arith; shut = λ v l. omega arith }
+
+-- one variable more
+pub owed-more : {j : ℕ} {val : ℕ → ℕ} {costs : List Cost} {res : List ℕ} {r : ℕ} → Owed j val costs res → j < length res
+    → (val j ≡ 2 → r ≡ gap costs j) → ((val j ≡ 2 → ⊥) → r ≡ 0) → Owed (j + 1) val costs (set res j r)
+owed-more {j} {val} {costs} {res} {r} old l f g = record {
+  open' = λ v i. ⊎_elim
+      (λ e. subst (λ (u : ℕ). val u ≡ 2 → get_or (set res j r) u 0 ≡ gap costs u) (sym e) (λ t. get_or-set_same res j r 0 l ∙ f t))
+      (λ e t. get_or-set_other res j v r 0 e ∙ old.open' v (omega arith) t)
+      (eq-or v j);
+  shut = λ v i. ⊎_elim
+      (λ e. subst (λ (u : ℕ). (val u ≡ 2 → ⊥) → get_or (set res j r) u 0 ≡ 0) (sym e) (λ t. get_or-set_same res j r 0 l ∙ g t))
+      (λ e t. get_or-set_other res j v r 0 e ∙ old.shut v (omega arith) t)
+      (eq-or v j);
+}

@@ -70,13 +70,13 @@ span-some f g a (suc n) {C} l go = split (ltb (f (a + n)) (g (a + n))) refl (λ 
     split true e back = go n (le_refl (suc n)) (ltb-true _ _ e)
     split false e back = back (let q : g (a + n) ≤ f (a + n) = ltb-false _ _ e in omega arith)
 
-pub span-le : (f : ℕ → ℕ) (n b : ℕ) → ((k : ℕ) → k < n → f k ≤ b) → span f 0 n ≤ n * b
+pub span-le-from : (f : ℕ → ℕ) (a n b : ℕ) → ((k : ℕ) → a ≤ k → k < a + n → f k ≤ b) → span f a n ≤ n * b
 unfolding span
-span-le f zero b h = omega arith
-span-le f (suc n) b h =
-    let one = span-le f n b (λ k l. h k (omega arith)) in
-    let two : f (0 + n) ≤ b = rw zero-add (h n (le_refl (suc n))) in
-    rw suc-mul (omega arith)
+span-le-from f a zero b h = omega arith
+span-le-from f a (suc n) b h = rw suc-mul (let one = span-le-from f a n b (λ k m l. h k m (omega arith)) in let two = h (a + n) (omega arith) (omega arith) in omega arith)
+
+pub span-le : (f : ℕ → ℕ) (n b : ℕ) → ((k : ℕ) → k < n → f k ≤ b) → span f 0 n ≤ n * b
+span-le f n b h = span-le-from f 0 n b (λ k _ l. h k (omega arith))
 
 -- the sum from 0 on
 pub sum_none : (f : ℕ → ℕ) → span f 0 0 ≡ 0

@@ -47,6 +47,24 @@ impl Taken {
     const NONE: Taken = Taken { by: 0, free: 0 };
 }
 
+// The start of charging, in one pass: `res` as `owed` fills it, the cost that is sure, and the variables where nothing is left to charge, a hint.
+fn begin(costs: &[Cost], p: Part, res: &mut [u64]) -> Taken
+    requires { Costs (length costs.now) costs.now × (length costs.now ≤ 64) × (length costs.now ≤ length res.old) }
+    ensures owed { Owed (length costs.now) (of p) costs.now res.new }
+    ensures sure { (result.by ≡ cost costs.now (of p)) × (result.by ≤ 64 * 2 ^ 34) }
+{
+    let mut sum: u64 = 0;
+    let mut free: u64 = 0;
+    for (v, cost) in costs.iter().enumerate() {
+        let y = p.look(v);
+        let left = cost.owed(y);
+        sum += cost.charged(y);
+        res[v] = left;
+        free = mark(free, v, left);
+    }
+    Taken { by: sum, free }
+}
+
 // Charges row h, if it needs a dear side.
 pub fn charge_row(rows: &Rows<'_>, costs: &[Cost], p: Part, res: &mut [u64], h: usize) -> Taken
     requires { Costs rows.now.n costs.now × (rows.now.n ≤ length res.old) × (h < count rows.now) }
@@ -85,8 +103,9 @@ pub fn charge(rows: &Rows<'_>, costs: &[Cost], p: Part, res: &mut [u64]) -> u64
     requires { Costs rows.now.n costs.now × (rows.now.n ≤ length res.old) }
     ensures { Charged rows.now costs.now (of p) result res.new }
 {
-    let mut free = owed(costs, p, res);
-    let mut bound = sure(costs, p);
+    let start = begin(costs, p, res);
+    let mut free = start.free;
+    let mut bound = start.by;
     for i in 0..rows.needs.len() {
         let taken = charge_turn(rows, costs, p, res, i, free);
         bound += taken.by;

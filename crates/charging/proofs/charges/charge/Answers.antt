@@ -5,4 +5,4 @@ use Rattle.charging.proofs.charges.charge.Goals as goal
 
 pub loop-i-init : goal.loop-i-init
 loop-i-init c =
-    (omega (arith, c.sure-bound.ensures.1), charge-none c.args.rows.now (of c.args.p) c.args.costs.now c.sure-bound.result _ c.requires.0 c.owed-free.ensures c.sure-bound.ensures.0)
+    (omega (arith, c.begin-start.ensures.sure.1), charge-none c.args.rows.now (of c.args.p) c.args.costs.now c.begin-start.result.by _ c.requires.0 c.begin-start.ensures.owed c.begin-start.ensures.sure.0)
