@@ -14,7 +14,7 @@ use Rattle.std.proofs.lemmas.Slice.{take-put_mid_below, between-put_mid, between
 use Rattle.charging.specs.declared.rows.Cost.{Cost as CostOf}
 use Rattle.charging.specs.Rows.{cost, bit}
 use Rattle.charging.proofs.SumLaws.{eq-or}
-use Rattle.instance.specs.Limits.{max_terms}
+use Rattle.instance.specs.Limits.{max_bound, max_terms}
 use Rattle.instance.specs.Tables.{term_at, objectives_in, IsInstance}
 use Rattle.instance.specs.Meaning.{meaning}
 use Rattle.instance.specs.Structs.{EntryIs}
@@ -29,7 +29,7 @@ use Rattle.normal.specs.Costs.{base_of, Spread, Settled, value_of, Priced}
 use Rattle.normal.proofs.LayLaws.{entry-inside-all, entry-terms-ok}
 use Rattle.normal.proofs.TableLaws.{HalfOk}
 use Rattle.normal.proofs.CostLaws.{half-fits}
-use Rattle.normal.proofs.SettleLaws.{settled-costs}
+use Rattle.normal.proofs.SettleLaws.{settled-small, settled-costs}
 use Rattle.normal.proofs.ObjectiveLaws.{objective-cost, cost-le, value-le}
 
 -- ---- Priced
@@ -57,6 +57,7 @@ module _ (ts rs : List ℤ) (i n : ℕ) (e : EntryNumbers) (m : EntryIs rs i e) 
   pub priced-one : Priced ts rs n i costs
   priced-one = record {
     are = settled-costs s (λ v b. omega (arith, p.small v b));
+    small = settled-small max_bound s (λ v b. omega (arith, p.small v b));
     cost_le = λ a b l. cost-le (base_of n sides) (lost_all (halves_at ts e.first e.count false)) (cost costs (bit a)) (cost costs (bit b)) (value_as a) (value_as b) l;
     value_le = λ a b l. value-le (base_of n sides) (lost_all (halves_at ts e.first e.count false)) (cost costs (bit a)) (cost costs (bit b)) (value_as a) (value_as b) l;
   }

@@ -9,7 +9,7 @@ use lib.Dec.{eqb, ltb}
 use lib.ListN.{get_or}
 use borrow.Author.Tests.{lt-ltb, le-ltb}
 use Rattle.charging.specs.declared.rows.Cost.{Cost as CostOf}
-use Rattle.charging.specs.Rows.{no_cost, pick, hit, span, cost, bit, Costs}
+use Rattle.charging.specs.Rows.{no_cost, pick, hit, span, gap, cost, bit, Costs}
 use Rattle.charging.proofs.BitLaws.{bit-two}
 use Rattle.normal.specs.declared.costs.Sides.{Sides as SidesOf}
 use Rattle.normal.specs.Costs.{side_of, sides_of, sides_sum, base_of, gap_of, dear_of, Settled}
@@ -30,11 +30,15 @@ dear-two z w = by (ltb z w)
     by true = omega arith
     by false = omega arith
 
--- where no side is large, no cost is
+-- where no side is above m, no cost is
+pub settled-small : {n : ℕ} {sides : List SidesOf} {costs : List CostOf} (m : ℕ) → Settled n sides costs → ((v b : ℕ) → side_of sides v b ≤ m)
+    → (v : ℕ) → v < n → gap costs v ≤ m
+settled-small {n} {sides} m s f v l = subst (λ (c : CostOf). c.gap ≤ m) (sym (s.each v l)) (gap-le (side_of sides v 0) (side_of sides v 1) m (f v 0) (f v 1))
+
 pub settled-costs : {n : ℕ} {sides : List SidesOf} {costs : List CostOf} → Settled n sides costs → ((v b : ℕ) → side_of sides v b ≤ 2 ^ 34) → Costs n costs
 settled-costs {n} {sides} s f = record {
   long = s.long;
-  small = λ v l. subst (λ (c : CostOf). c.gap ≤ 2 ^ 34) (sym (s.each v l)) (gap-le (side_of sides v 0) (side_of sides v 1) (2 ^ 34) (f v 0) (f v 1));
+  small = settled-small (2 ^ 34) s f;
   two = λ v l. subst (λ (c : CostOf). c.dear < 2) (sym (s.each v l)) (dear-two (side_of sides v 0) (side_of sides v 1));
 }
 

@@ -1,8 +1,8 @@
 -- Objectives in natural numbers: what each variable costs on each side, and then on its dear side alone.
 use Rattle.std.specs.Prelude.{◌≡◌, false, cond, List, ℕ, ◌+◌, ◌-◌, ◌*◌, ◌≤◌, ◌<◌, min, eqb, ltb, ℤ, length, get_or, ◌≤ℤ◌}
 use Rattle.charging.specs.declared.rows.Cost.{Cost}
-use Rattle.charging.specs.Rows.{no_cost, span, bit, cost, Costs, costs_of}
-use Rattle.instance.specs.Limits.{max_coef}
+use Rattle.charging.specs.Rows.{no_cost, span, bit, gap, cost, Costs, costs_of}
+use Rattle.instance.specs.Limits.{max_coef, max_bound}
 use Rattle.instance.specs.Terms.{sum}
 use Rattle.instance.specs.Meaning.{entry_at}
 use Rattle.normal.specs.declared.costs.Sides.{Sides}
@@ -60,9 +60,10 @@ pub record Settled (n : ℕ) (sides : List Sides) (costs : List Cost) : Type 0 w
 abbrev pub value_of : List ℤ → List ℤ → ℕ → ℕ → ℤ
 value_of ts rs i a = sum (entry_at ts rs i).terms a
 
--- Objective i is laid out: its costs have the order of its values.
+-- Objective i is laid out: its costs have the order of its values, and none is above what a value can be.
 pub record Priced (ts rs : List ℤ) (n i : ℕ) (costs : List Cost) : Type 0 where
   pub are : Costs n costs
+  pub small : (v : ℕ) → v < n → gap costs v ≤ max_bound
   pub cost_le : (a b : ℕ) → value_of ts rs i a ≤ℤ value_of ts rs i b → cost costs (bit a) ≤ cost costs (bit b)
   pub value_le : (a b : ℕ) → cost costs (bit a) ≤ cost costs (bit b) → value_of ts rs i a ≤ℤ value_of ts rs i b
 
