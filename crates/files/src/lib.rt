@@ -21,5 +21,5 @@ mod read; // read.rt: reading a file
 
 pub use errors::{ReadFileError, WriteFileError};
 pub use read::{FileHead, read_file};
-pub use sizes::{File, Sizes};
+pub use sizes::{File, Kind, Sizes};
 pub use write::write_file;

@@ -7,6 +7,7 @@ use blocks::Block;
 use points::Point;
 
 // A front file is lent bytes; this names its sizes and places, and has no values.
+#[derive(Clone, Copy, Debug, PartialEq, Eq)]
 pub enum File {}
 
 impl File {
@@ -18,6 +19,8 @@ impl File {
     pub const BLOCK_POINTS: usize = 12;
     // Bytes of a point.
     pub const POINT_LEN: usize = 40;
+    // Bytes of a number of a point.
+    pub const NUMBER_LEN: usize = 8;
     // Form 1.
     pub const FORM: u64 = 1;
     // Places in every block: kind, number, and what it holds.
@@ -39,13 +42,13 @@ impl File {
 
     pub const HEAD_END: usize = 20;
     // Places in a point, after its first value.
-    pub const SECOND_AT: usize = 8;
+    pub const SECOND_AT: usize = File::NUMBER_LEN;
 
-    pub const THIRD_AT: usize = 16;
+    pub const THIRD_AT: usize = 2 * File::NUMBER_LEN;
 
-    pub const FOURTH_AT: usize = 24;
+    pub const FOURTH_AT: usize = 3 * File::NUMBER_LEN;
 
-    pub const MODEL_AT: usize = 32;
+    pub const MODEL_AT: usize = 4 * File::NUMBER_LEN;
     // Assignments of all points.
     pub const MODELS_ROOM: usize = Point::MAX_POINTS as usize;
     // Values of all points.

@@ -7,7 +7,7 @@
 // Read specs/Finding.antt; proofs/FindLaws.antt has the argument.
 #![tactic(auto)]
 
-mod hints;
+pub mod hints;
 
 ghost use Rattle.std.specs.Prelude.{◌-◌, ◌<◌, ◌≤◌};
 ghost use Rattle.charging.specs.Meets.{Meets};

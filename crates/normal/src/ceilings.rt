@@ -16,9 +16,9 @@ use charging::Cost;
 pub const MAX_CEILINGS: usize = 4;
 
 // How many terms a half row must have to be a ceiling, and to be one of the sum.
-const MIN_TERMS: usize = 8;
+pub const MIN_TERMS: usize = 8;
 
-const SUM_TERMS: usize = 3;
+pub const SUM_TERMS: usize = 3;
 
 // Whether half row h is tight: it has so many terms at least, and must reach more than half of what it weighs.
 fn is_tight(half: &NarrowRows<'_>, h: usize, least: usize) -> bool

@@ -9,7 +9,8 @@ ghost use Rattle.instance.specs.Structs.{entry_of};
 ghost use Rattle.normal.specs.Rows.{Laid};
 ghost use Rattle.normal.specs.Grown.{half_rows_of, half_rows_all, Grown, Rooms};
 
-use crate::rows::{Filled, add_half};
+pub use crate::rows::Filled;
+use crate::rows::add_half;
 use charging::Term;
 use instance::{Entry, Kind};
 
