@@ -13,7 +13,7 @@ use capping::Problem;
 use charging::{Cost, Rows, Term, Turn};
 use instance::Instance;
 use normal::ceilings::{MAX_CEILINGS, lay_ceilings};
-use normal::costs::lay_objectives;
+use normal::costs::{MAX_COSTS, lay_objectives};
 use normal::fill::lay_rows;
 use normal::narrow::NarrowRows;
 use normal::rows::Filled;
@@ -59,7 +59,7 @@ fn list_rows(
     ensures { Lists terms.now rows.now room values.old models.old values.new models.new result }
 {
     let n = half_rows.n;
-    let mut costs = [NO_COST; Instance::MAX_OBJECTIVES * MAX_VARIABLES];
+    let mut costs = [NO_COST; MAX_COSTS];
     let mut ceilings = [NO_COST; MAX_CEILINGS * MAX_VARIABLES];
     let mut caps = [0; MAX_CEILINGS];
     let mut order = [0; MAX_VARIABLES];

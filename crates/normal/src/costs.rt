@@ -6,10 +6,13 @@ ghost use Rattle.normal.specs.Costs.{more_at, cost_of, Settled, Priced, PricedAl
 
 use crate::half_of;
 use charging::Cost;
-use instance::{Entry, Term};
+use instance::{Entry, Instance, Term};
 
 // Two sides for each variable that an instance may have.
 pub const MAX_SIDES: usize = Term::MAX_VARIABLE as usize;
+
+// A cost for each variable in each objective that an instance may have.
+pub const MAX_COSTS: usize = Instance::MAX_OBJECTIVES * Term::MAX_VARIABLE as usize;
 
 // What a variable's sides give, or withhold: where it is 0, and where it is 1.
 #[derive(Clone, Copy, Debug, PartialEq, Eq)]
