@@ -7,7 +7,7 @@ use blocks::Block;
 use points::Point;
 
 // A front file is lent bytes; this names its sizes and places, and has no values.
-#[derive(Clone, Copy, Debug, PartialEq, Eq)]
+#[derive(Drop)]
 pub enum File {}
 
 impl File {
