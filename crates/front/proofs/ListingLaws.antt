@@ -18,7 +18,7 @@ use Rattle.seeking.specs.Gathers.{Fit}
 use Rattle.advancing.specs.Next.{IsNext, Ended}
 use Rattle.instance.specs.Meaning.{Instance, meaning, vector}
 use Rattle.judge.specs.Judging.{padded}
-use Rattle.normal.specs.Normal.{Normal}
+use Rattle.normal.specs.Normal.{InOrder}
 use Rattle.points.specs.Vectors.{LeAll, Lex}
 use Rattle.points.specs.Fronts.{Candidate, Fresh, Begins, ComesNext}
 use Rattle.points.proofs.BeginLaws.{begins-none}
@@ -78,7 +78,7 @@ pub listing-as : {ts rs : List ℤ} {problem : Problem 4} {vs : List ℤ} {ms : 
     → m ≡ r → Listing ts rs problem vs ms m vs' ms' (take m trades) → Listing ts rs problem vs ms r vs' ms' (take r trades)
 listing-as {ts} {rs} {problem} {vs} {ms} {m} {r} {vs'} {ms'} trades e l = subst (λ (k : ℕ). Listing ts rs problem vs ms k vs' ms' (take k trades)) e l
 
-module _ {ts rs : List ℤ} {problem : Problem 4} (nm : Normal ts rs problem.count problem.rows problem.costs.now)
+module _ {ts rs : List ℤ} {problem : Problem 4} (nm : InOrder ts rs problem.count problem.rows problem.costs.now)
     {vs : List ℤ} {ms : List ℕ} {m : ℕ} {vs' : List ℤ} {ms' : List ℕ} {listed : List (Trade 4)} (l : Listing ts rs problem vs ms m vs' ms' listed) where
   abbrev I : Instance
   I = meaning ts rs

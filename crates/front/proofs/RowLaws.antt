@@ -16,7 +16,7 @@ use Rattle.instance.specs.Answers.{SizesOf}
 use Rattle.instance.specs.declared.tables.Instance.{Instance as Sized}
 use Rattle.normal.specs.Rows.{Laid}
 use Rattle.normal.specs.Grown.{half_rows_all}
-use Rattle.normal.proofs.NormalLaws.{few-halves, few-terms, few-small, normal-is}
+use Rattle.normal.proofs.NormalLaws.{few-halves, few-terms, few-small, ordered-is, normal-is}
 use Rattle.front.specs.Listing.{HalfRows}
 
 module _ {ts rs : List ℤ} {sizes : Sized} (s : SizesOf ts rs sizes) {starts : List ℕ} {laid : List Term} {needs : List ℕ} {halves used : ℕ}
@@ -41,5 +41,6 @@ module _ {ts rs : List ℤ} {sizes : Sized} (s : SizesOf ts rs sizes) {starts : 
               few = omega (arith, long, terms-fit, ap length terms_are);
               small = subst (λ (terms : List Term). (k : ℕ) → k < length terms → weight terms k ≤ max_coef) (sym terms_are) (few-small s.is s.objectives s.rows l);
             };
+        ordered = λ costs p. ordered-is s.is s.objectives s.rows l rows variables starts_are terms_are needs_are p;
         normal = λ costs p. normal-is s.is s.objectives s.rows l rows variables starts_are terms_are needs_are p;
       }

@@ -18,7 +18,7 @@ use Rattle.capping.specs.Caps.{vec, at, row, no_trade}
 use Rattle.advancing.specs.Next.{IsNext, Ended, Next}
 use Rattle.instance.specs.Meaning.{Instance, meaning, vector}
 use Rattle.judge.specs.Judging.{padded}
-use Rattle.normal.specs.Normal.{Normal}
+use Rattle.normal.specs.Normal.{InOrder}
 use Rattle.points.specs.Fronts.{Candidate}
 use Rattle.points.specs.Lists.{values_put}
 use Rattle.points.proofs.BeginLaws.{begins-more, begins-all, begins-front, begins-short}
@@ -99,7 +99,7 @@ added listed m trade h = record { many = omega (arith, first, more, length-set l
 
 -- ---- Listing
 
-module _ {ts rs : List ℤ} {problem : Problem 4} (nm : Normal ts rs problem.count problem.rows problem.costs.now)
+module _ {ts rs : List ℤ} {problem : Problem 4} (nm : InOrder ts rs problem.count problem.rows problem.costs.now)
     {vs : List ℤ} {ms : List ℕ} {m : ℕ} {vs' : List ℤ} {ms' : List ℕ} {listed : List (Trade 4)} (l : Listing ts rs problem vs ms m vs' ms' listed) where
   abbrev I : Instance
   I = meaning ts rs

@@ -16,7 +16,7 @@ use Rattle.instance.specs.Meaning.{meaning, vector}
 use Rattle.judge.specs.Judging.{padded}
 use Rattle.judge.proofs.VectorLaws.{vector-at, vector-none, padded-get_or}
 use Rattle.normal.specs.Costs.{value_of}
-use Rattle.normal.specs.Normal.{Normal}
+use Rattle.normal.specs.Normal.{InOrder}
 use Rattle.points.specs.Vectors.{LeAll, Lex}
 use Rattle.points.proofs.OrderLaws.{le_all-refl}
 use Rattle.points.proofs.PlaceLaws.{le_all-at, at-le_all, Differs, lex-differs}
@@ -32,7 +32,7 @@ less-at (suc m) j p f g l h e d =
     first (yes u) = inr u
     first (no u) = inl (omega arith)
 
-module _ {ts rs : List ℤ} (problem : Problem 4) (nm : Normal ts rs problem.count problem.rows problem.costs.now) where
+module _ {ts rs : List ℤ} (problem : Problem 4) (nm : InOrder ts rs problem.count problem.rows problem.costs.now) where
   -- The four values of an assignment, and its costs.
   abbrev pub four : ℕ → List ℤ
   four a = padded (vector (meaning ts rs) a)

@@ -5,9 +5,9 @@ use Rattle.charging.specs.declared.rows.Rows.{Rows}
 use Rattle.instance.specs.Tables.{objectives_in, IsInstance}
 use Rattle.instance.specs.Meaning.{Instance, meaning, vector, Feasible}
 use Rattle.judge.specs.Judging.{padded}
-use Rattle.normal.specs.Costs.{PricedAll}
+use Rattle.normal.specs.Costs.{OrderedAll, PricedAll}
 use Rattle.normal.specs.Ceilings.{Narrow}
-use Rattle.normal.specs.Normal.{Normal}
+use Rattle.normal.specs.Normal.{InOrder, Normal}
 use Rattle.points.specs.Limits.{max_points, point_values}
 use Rattle.points.specs.Fronts.{Candidate, IsFront}
 
@@ -61,4 +61,5 @@ pub record HalfRows (ts rs : List ℤ) (k : ℕ) (rows : Rows) : Type 0 where
   pub objectives : k ≡ objectives_in rs
   pub variables : rows.n ≡ (meaning ts rs).variables
   pub narrow : Narrow rows
+  pub ordered : (costs : List Cost) → OrderedAll ts rs rows.n k costs → InOrder ts rs k rows costs
   pub normal : (costs : List Cost) → PricedAll ts rs rows.n k costs → Normal ts rs k rows costs

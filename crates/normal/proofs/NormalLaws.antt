@@ -23,8 +23,8 @@ use Rattle.instance.proofs.InstanceLaws.{variables-le}
 use Rattle.instance.proofs.MeaningLaws.{instance-within}
 use Rattle.normal.specs.Rows.{HalfRow, terms_of, all_halves, starts_from, Laid}
 use Rattle.normal.specs.Grown.{half_rows_all}
-use Rattle.normal.specs.Costs.{PricedAll}
-use Rattle.normal.specs.Normal.{RowsHold, Normal}
+use Rattle.normal.specs.Costs.{Ordered, OrderedAll, Priced, PricedAll}
+use Rattle.normal.specs.Normal.{RowsHold, InOrder, Normal}
 use Rattle.normal.proofs.MeetLaws.{Kinds, MeetsAt, meets-all, all-meets, hold-met, met-hold}
 use Rattle.normal.proofs.TableLaws.{HalfOk, rows_ok, rows-table, weights-coef}
 use Rattle.normal.proofs.LayLaws.{all-few}
@@ -78,6 +78,34 @@ module _ {ts rs : List ℤ} (is : IsInstance ts rs) where
     pub laid-met : (a : ℕ) → RowsHold ts rs a → MeetsAt (take (halves + 1) starts) (take used laid) (take halves needs) (bit a)
     laid-met a f = rows_are (λ s w n. MeetsAt s w n (bit a)) (all-meets hs a (λ r i. hold-met (meaning ts rs).rows a kinds f r (subst (Memᴰ r) all i)))
 
+-- ---- in order, and laid out
+
+pub priced-ordered : {ts rs : List ℤ} {n i : ℕ} {costs : List Cost} → Priced ts rs n i costs → Ordered ts rs n i costs
+priced-ordered p = record { are = p.are; cost_le = p.cost_le; value_le = p.value_le }
+
+pub all-ordered : {ts rs : List ℤ} {n k : ℕ} {costs : List Cost} → PricedAll ts rs n k costs → OrderedAll ts rs n k costs
+all-ordered p = record { long = p.long; each = λ i l. priced-ordered (p.each i l) }
+
+pub normal-ordered : {ts rs : List ℤ} {k : ℕ} {rows : Rows} {costs : List Cost} → Normal ts rs k rows costs → InOrder ts rs k rows costs
+normal-ordered nm = record {
+  is = nm.is;
+  variables = nm.variables;
+  objectives = nm.objectives;
+  rows_hold = nm.rows_hold;
+  rows_met = nm.rows_met;
+  priced = all-ordered nm.priced;
+}
+
+pub ordered-normal : {ts rs : List ℤ} {k : ℕ} {rows : Rows} {costs : List Cost} → InOrder ts rs k rows costs → PricedAll ts rs rows.n k costs → Normal ts rs k rows costs
+ordered-normal o p = record {
+  is = o.is;
+  variables = o.variables;
+  objectives = o.objectives;
+  rows_hold = o.rows_hold;
+  rows_met = o.rows_met;
+  priced = p;
+}
+
 -- ---- all
 
 module _ {ts rs : List ℤ} (is : IsInstance ts rs) {k m : ℕ} (ke : k ≡ objectives_in rs) (me : m ≡ rows_in rs)
@@ -105,9 +133,9 @@ module _ {ts rs : List ℤ} (is : IsInstance ts rs) {k m : ℕ} (ke : k ≡ obje
   pub few-small : (j : ℕ) → j < length (take used laid) → weight (take used laid) j ≤ max_coef
   few-small = laid-weights is all l
 
-  pub normal-is : (rows : Rows) → rows.n ≡ (meaning ts rs).variables → rows.starts.now ≡ take (halves + 1) starts → rows.terms.now ≡ take used laid → rows.needs.now ≡ take halves needs
-      → {costs : List Cost} → PricedAll ts rs rows.n k costs → Normal ts rs k rows costs
-  normal-is rows ne se te de p = record {
+  pub ordered-is : (rows : Rows) → rows.n ≡ (meaning ts rs).variables → rows.starts.now ≡ take (halves + 1) starts → rows.terms.now ≡ take used laid → rows.needs.now ≡ take halves needs
+      → {costs : List Cost} → OrderedAll ts rs rows.n k costs → InOrder ts rs k rows costs
+  ordered-is rows ne se te de p = record {
     is = is;
     variables = ne;
     objectives = ke;
@@ -115,3 +143,7 @@ module _ {ts rs : List ℤ} (is : IsInstance ts rs) {k m : ℕ} (ke : k ≡ obje
     rows_met = λ a f. at-meets rows (bit a) (three (λ s w n. MeetsAt s w n (bit a)) se te de (laid-met is all l a f));
     priced = p;
   }
+
+  pub normal-is : (rows : Rows) → rows.n ≡ (meaning ts rs).variables → rows.starts.now ≡ take (halves + 1) starts → rows.terms.now ≡ take used laid → rows.needs.now ≡ take halves needs
+      → {costs : List Cost} → PricedAll ts rs rows.n k costs → Normal ts rs k rows costs
+  normal-is rows ne se te de p = ordered-normal (ordered-is rows ne se te de (all-ordered p)) p

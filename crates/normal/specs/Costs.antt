@@ -60,6 +60,17 @@ pub record Settled (n : ℕ) (sides : List Sides) (costs : List Cost) : Type 0 w
 abbrev pub value_of : List ℤ → List ℤ → ℕ → ℕ → ℤ
 value_of ts rs i a = sum (entry_at ts rs i).terms a
 
+-- Objective i is in order: its costs have the order of its values.
+pub record Ordered (ts rs : List ℤ) (n i : ℕ) (costs : List Cost) : Type 0 where
+  pub are : Costs n costs
+  pub cost_le : (a b : ℕ) → value_of ts rs i a ≤ℤ value_of ts rs i b → cost costs (bit a) ≤ cost costs (bit b)
+  pub value_le : (a b : ℕ) → cost costs (bit a) ≤ cost costs (bit b) → value_of ts rs i a ≤ℤ value_of ts rs i b
+
+-- The first `count` objectives are in order, the n costs of each one after the other.
+pub record OrderedAll (ts rs : List ℤ) (n count : ℕ) (costs : List Cost) : Type 0 where
+  pub long : count * n ≤ length costs
+  pub each : (i : ℕ) → i < count → Ordered ts rs n i (costs_of n costs i)
+
 -- Objective i is laid out: its costs have the order of its values, and none is above what a value can be.
 pub record Priced (ts rs : List ℤ) (n i : ℕ) (costs : List Cost) : Type 0 where
   pub are : Costs n costs
